@@ -8,15 +8,24 @@ use std::process::ExitCode;
 use std::rt::{Env, Files};
 use std::{env, fs};
 
-// Where `--to` isn't given, so many steps are drawn.
+// Without `--to` so many steps are drawn.
 const PAGE: u64 = 200;
 
 const USAGE: &str = "usage: dfs_picture FILE [--from N] [--to M] [--host cN] [--file PATH]";
 
+// The words are none of those above.
+const NO_WORDS: u8 = 1;
+// The file can't be read, is no journal, or has no such host.
+const NO_JOURNAL: u8 = 2;
+// Memory ran out.
+const NO_MEMORY: u8 = 3;
+// Standard output failed.
+const NO_OUTPUT: u8 = 4;
+
 fn main(rt: HostRuntime) -> ExitCode {
     match words(&rt) {
         Ok(words) => draw(&rt, words.as_slice()),
-        Err(_) => ExitCode::from(3),
+        Err(_) => ExitCode::from(NO_MEMORY),
     }
 }
 
@@ -33,29 +42,44 @@ fn words(rt: &(impl Env + AllocGlobal)) -> Result<Vec<String>, AllocError> {
 
 fn draw(rt: &(impl Files + Print + Eprint + AllocGlobal), words: &[String]) -> ExitCode {
     let Some((name, options)) = words.split_first() else {
-        let _ = eprintln!(rt; "{USAGE}");
-        return ExitCode::from(1);
+        return tell_usage(rt);
     };
     let Some(shown) = shown_by(options) else {
-        let _ = eprintln!(rt; "{USAGE}");
-        return ExitCode::from(1);
+        return tell_usage(rt);
     };
     match fs::read_to_string(rt, name.as_str()) {
         Ok(text) => read(rt, text.as_str(), shown),
         Err(error) => {
             let _ = eprintln!(rt; "{name}: {error}");
-            ExitCode::from(2)
+            ExitCode::from(NO_JOURNAL)
         }
     }
 }
 
+fn tell_usage(rt: &impl Eprint) -> ExitCode {
+    let _ = eprintln!(rt; "{USAGE}");
+    ExitCode::from(NO_WORDS)
+}
+
 fn read(rt: &(impl Print + Eprint + AllocGlobal), text: &str, shown: Shown<'_>) -> ExitCode {
     match read_run(rt.alloc(), text) {
-        Ok(run) => show(rt, &run, shown),
+        Ok(run) if has_host(&run, shown) => show(rt, &run, shown),
+        Ok(_) => {
+            let _ = eprintln!(rt; "refused: there is no such host");
+            ExitCode::from(NO_JOURNAL)
+        }
         Err(why) => {
             let _ = eprintln!(rt; "refused: {why}");
-            ExitCode::from(2)
+            ExitCode::from(NO_JOURNAL)
         }
+    }
+}
+
+// Whether the host, where one is asked for, is in the run.
+fn has_host(run: &Run, shown: Shown<'_>) -> bool {
+    match shown.host {
+        Some(host) => host <= run.hosts,
+        None => true,
     }
 }
 
@@ -63,13 +87,13 @@ fn show(rt: &(impl Print + AllocGlobal), run: &Run, shown: Shown<'_>) -> ExitCod
     match picture_of(rt.alloc(), run, shown) {
         Ok(picture) => match print!(rt; "{picture}") {
             Ok(()) => ExitCode::SUCCESS,
-            Err(_) => ExitCode::from(4),
+            Err(_) => ExitCode::from(NO_OUTPUT),
         },
-        Err(_) => ExitCode::from(3),
+        Err(_) => ExitCode::from(NO_MEMORY),
     }
 }
 
-// What the options ask for.
+// What the options ask for: none where they are no options.
 fn shown_by(options: &[String]) -> Option<Shown<'_>> {
     let mut shown = Shown {
         from: 1,
@@ -82,8 +106,8 @@ fn shown_by(options: &[String]) -> Option<Shown<'_>> {
             return None;
         };
         match name.as_str() {
-            "--from" => shown.from = value.as_str().parse().ok()?,
-            "--to" => shown.to = value.as_str().parse().ok()?,
+            "--from" => shown.from = number_of(value.as_str())?,
+            "--to" => shown.to = number_of(value.as_str())?,
             "--host" => shown.host = Some(value.as_str().strip_prefix("c")?.parse().ok()?),
             "--file" => shown.file = Some(value.as_str()),
             _ => return None,
@@ -92,5 +116,15 @@ fn shown_by(options: &[String]) -> Option<Shown<'_>> {
     if shown.to == 0 {
         shown.to = shown.from.saturating_add(PAGE - 1);
     }
-    Some(shown)
+    if shown.from <= shown.to {
+        Some(shown)
+    } else {
+        None
+    }
+}
+
+// The number of a step.
+fn number_of(word: &str) -> Option<u64> {
+    let number = word.parse().ok()?;
+    if number == 0 { None } else { Some(number) }
 }

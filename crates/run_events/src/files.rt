@@ -5,36 +5,25 @@ use crate::members::{case_of, file_of, is_true_at, list_at, number_at, text_at};
 use crate::run::FileId;
 use serde_json::Value;
 use std::alloc::{AllocError, Global};
-use std::collections::{BTreeMap, BTreeSet};
+use std::collections::BTreeMap;
 
-// A name in a directory.
-#[derive(PartialEq, Eq, PartialOrd, Ord, Drop)]
-struct Named {
+// What a name in a directory stands for.
+#[derive(Clone, Copy, PartialEq, Eq)]
+struct Link {
     dir: FileId,
-    name: String,
     file: FileId,
 }
 
-// A fileset with its name.
-#[derive(PartialEq, Eq, PartialOrd, Ord, Drop)]
-struct Fileset {
-    name: String,
-    number: u64,
-}
-
-// A request, by who sent it to whom and its number.
-#[derive(Clone, Copy, PartialEq, Eq, PartialOrd, Ord)]
-struct Request {
-    host: u64,
-    server: u64,
-    number: u64,
-}
+// A request, by its host, its server and its number.
+type Request = (u64, u64, u64);
 
 /// Which files have which paths, at any time of the run.
 #[derive(Drop)]
 pub struct Files {
-    filesets: BTreeSet<Fileset>,
-    named: BTreeSet<Named>,
+    // The numbers of the filesets of a name.
+    filesets: BTreeMap<String, Vec<u64>>,
+    // What a name stands for, in all directories.
+    links: BTreeMap<String, Vec<Link>>,
     // The names of the filesets that hosts ask to enter.
     entered: BTreeMap<Request, String>,
 }
@@ -43,8 +32,8 @@ impl Files {
     /// No file.
     pub(crate) fn new(alloc: Global) -> Files {
         Files {
-            filesets: BTreeSet::new(alloc),
-            named: BTreeSet::new(alloc),
+            filesets: BTreeMap::new(alloc),
+            links: BTreeMap::new(alloc),
             entered: BTreeMap::new(alloc),
         }
     }
@@ -61,8 +50,30 @@ impl Files {
     }
 
     fn note_fileset(&mut self, alloc: Global, name: &str, number: u64) -> Result<(), AllocError> {
-        let name = String::from_str(alloc, name)?;
-        self.filesets.insert(Fileset { name, number })?;
+        if let Some(numbers) = self.filesets.get_mut(name) {
+            if !numbers.contains(&number) {
+                numbers.push(number)?;
+            }
+            return Ok(());
+        }
+        let key = String::from_str(alloc, name)?;
+        let mut numbers = Vec::new(alloc);
+        numbers.push(number)?;
+        self.filesets.insert(key, numbers)?;
+        Ok(())
+    }
+
+    fn note_link(&mut self, alloc: Global, name: &str, link: Link) -> Result<(), AllocError> {
+        if let Some(links) = self.links.get_mut(name) {
+            if !links.contains(&link) {
+                links.push(link)?;
+            }
+            return Ok(());
+        }
+        let key = String::from_str(alloc, name)?;
+        let mut links = Vec::new(alloc);
+        links.push(link)?;
+        self.links.insert(key, links)?;
         Ok(())
     }
 
@@ -95,8 +106,8 @@ impl Files {
                 anode: number_at(entry, "anode").unwrap_or(0),
                 unique: number_at(entry, "unique").unwrap_or(0),
             };
-            let name = String::from_str(alloc, text_at(entry, "name").unwrap_or(""))?;
-            self.named.insert(Named { dir, name, file })?;
+            let link = Link { dir, file };
+            self.note_link(alloc, text_at(entry, "name").unwrap_or(""), link)?;
         }
         Ok(())
     }
@@ -163,13 +174,17 @@ impl Files {
 
     /// The files that ever had a path, as far as it is known.
     pub fn at_path(&self, alloc: Global, path: &str) -> Result<Vec<FileId>, AllocError> {
-        let mut names = path.split('/').filter(|name| !name.is_empty());
-        let mut files = match names.next() {
-            Some(name) => self.roots(alloc, name)?,
-            None => Vec::new(alloc),
-        };
-        for name in names {
-            files = self.below(alloc, files.as_slice(), name)?;
+        let mut files = Vec::new(alloc);
+        let mut is_below = false;
+        for name in path.split('/') {
+            if !name.is_empty() {
+                files = if is_below {
+                    self.below(alloc, files.as_slice(), name)?
+                } else {
+                    self.roots(alloc, name)?
+                };
+                is_below = true;
+            }
         }
         Ok(files)
     }
@@ -177,14 +192,9 @@ impl Files {
     // The roots of the filesets of a name.
     fn roots(&self, alloc: Global, name: &str) -> Result<Vec<FileId>, AllocError> {
         let mut files = Vec::new(alloc);
-        for fileset in self.filesets.iter() {
-            if fileset.name.as_str() == name {
-                let root = FileId {
-                    fileset: fileset.number,
-                    anode: 1,
-                    unique: 1,
-                };
-                files.push(root)?;
+        if let Some(numbers) = self.filesets.get(name) {
+            for number in numbers.iter() {
+                files.push(root_of(*number))?;
             }
         }
         Ok(files)
@@ -193,21 +203,29 @@ impl Files {
     // What ever had this name in one of these directories.
     fn below(&self, alloc: Global, dirs: &[FileId], name: &str) -> Result<Vec<FileId>, AllocError> {
         let mut files = Vec::new(alloc);
-        for named in self.named.iter() {
-            if named.name.as_str() == name && dirs.contains(&named.dir) {
-                files.push(named.file)?;
+        if let Some(links) = self.links.get(name) {
+            for link in links.iter() {
+                if dirs.contains(&link.dir) {
+                    files.push(link.file)?;
+                }
             }
         }
         Ok(files)
     }
 }
 
+// The root of a fileset.
+fn root_of(fileset: u64) -> FileId {
+    FileId {
+        fileset,
+        anode: 1,
+        unique: 1,
+    }
+}
+
 fn request_of(message: &Value, number: Option<u64>) -> Option<Request> {
-    Some(Request {
-        host: number_at(message, "host")?,
-        server: number_at(message, "server")?,
-        number: number?,
-    })
+    let host = number_at(message, "host")?;
+    Some((host, number_at(message, "server")?, number?))
 }
 
 // The name of the fileset that a Change is about.

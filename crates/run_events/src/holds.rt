@@ -13,7 +13,7 @@ use std::collections::{BTreeMap, BTreeSet};
 const PLACES: u64 = 12;
 
 /// A kind of tokens, as it is drawn.
-#[derive(Clone, Copy, PartialEq, Eq)]
+#[derive(Clone, Copy)]
 pub enum HoldKind {
     /// Bytes, or a directory's names.
     Bytes,
@@ -48,20 +48,11 @@ pub struct Hold {
     pub why: String,
 }
 
-// A token, by its id.
-#[derive(Clone, Copy, PartialEq, Eq, PartialOrd, Ord)]
-struct TokenKey {
-    server: u64,
-    epoch: u64,
-    seq: u64,
-}
+// A token, by its server, epoch and number.
+type TokenKey = (u64, u64, u64);
 
-// A place beside a host's line.
-#[derive(Clone, Copy, PartialEq, Eq, PartialOrd, Ord)]
-struct Beside {
-    host: u64,
-    place: u64,
-}
+// A place beside a host's line, by the host and how far it is, from 0.
+type Beside = (u64, u64);
 
 /// The tokens that hosts hold and held.
 #[derive(Drop)]
@@ -105,14 +96,12 @@ impl Holds {
         let key = key_of(token).ok_or(Why::Taken)?;
         let file = token.get("fid").and_then(file_of).ok_or(Why::Taken)?;
         let kind = kind_of(token).ok_or(Why::Taken)?;
-        let words = words_of(alloc, token)?;
         let place = self.free_place(host);
-        self.used
-            .insert(Beside { host, place })
-            .map_err(AllocError::from)?;
+        self.used.insert((host, place)).map_err(AllocError::from)?;
         self.held
             .insert(key, self.all.len())
             .map_err(AllocError::from)?;
+        let words = words_of(alloc, token)?;
         let hold = Hold {
             host,
             file,
@@ -129,27 +118,18 @@ impl Holds {
     }
 
     /// A token leaves its host.
-    pub(crate) fn drop_token(
-        &mut self,
-        alloc: Global,
-        leave: &Value,
-        step: usize,
-    ) -> Result<FileId, Why> {
+    pub(crate) fn drop_token(&mut self, leave: &Value, step: usize) -> Result<FileId, Why> {
         let token = leave.get("token").ok_or(Why::Dropped)?;
         let key = key_of(token).ok_or(Why::Dropped)?;
         let file = token.get("fid").and_then(file_of).ok_or(Why::Dropped)?;
-        let why = String::from_str(alloc, text_at(leave, "why").ok_or(Why::Dropped)?)?;
+        let why = text_at(leave, "why").ok_or(Why::Dropped)?;
         let Some(at) = self.held.remove(&key) else {
             return Ok(file);
         };
         if let Some(hold) = self.all.get_mut(at) {
-            let beside = Beside {
-                host: hold.host,
-                place: hold.place,
-            };
             hold.until = Some(step);
-            hold.why = why;
-            let _ = self.used.remove(&beside);
+            hold.why.push_str(why)?;
+            self.used.remove(&(hold.host, hold.place));
         }
         Ok(file)
     }
@@ -157,7 +137,7 @@ impl Holds {
     // The first place beside a host's line where none stands.
     fn free_place(&self, host: u64) -> u64 {
         for place in 0..PLACES {
-            if !self.used.contains(&Beside { host, place }) {
+            if !self.used.contains(&(host, place)) {
                 return place;
             }
         }
@@ -167,11 +147,9 @@ impl Holds {
 
 fn key_of(token: &Value) -> Option<TokenKey> {
     let id = token.get("id")?;
-    Some(TokenKey {
-        server: number_at(id, "server")?,
-        epoch: number_at(id, "epoch")?,
-        seq: number_at(id, "seq")?,
-    })
+    let server = number_at(id, "server")?;
+    let epoch = number_at(id, "epoch")?;
+    Some((server, epoch, number_at(id, "seq")?))
 }
 
 fn kind_of(token: &Value) -> Option<HoldKind> {

@@ -11,7 +11,6 @@ use serde_json::Value;
 use std::alloc::Global;
 
 /// What is known of a run while its journal is read.
-#[derive(Drop)]
 pub(crate) struct Reader {
     /// How many hosts there are, beside the setup host.
     pub hosts: u64,
@@ -84,5 +83,19 @@ impl Reader {
             holds: holds.into_holds(),
             files,
         }
+    }
+}
+
+impl Drop for Reader {
+    fn drop(self) {
+        let Reader {
+            hosts: _,
+            servers: _,
+            events: _,
+            ways: _,
+            holds: _,
+            asking: _,
+            files: _,
+        } = self;
     }
 }

@@ -1,5 +1,7 @@
 //! The text of a journal, read.
 
+ghost use Rattle.std.specs.Prelude.{◌≤◌, IfErr};
+
 use crate::reader::Reader;
 use crate::refused::{Refused, Why};
 use crate::run::Run;
@@ -8,18 +10,17 @@ use std::alloc::Global;
 
 /// Reads the text of a journal: a line of JSON with the version, the tree at the start and the epochs, and then a line for
 /// each step. It is refused at the first line that is none of a journal, or for which memory ran out.
-pub fn read_run(alloc: Global, text: &str) -> Result<Run, Refused> {
-    let mut lines = text.lines();
-    let mut reader = match read_head(alloc, lines.next().unwrap_or("")) {
+pub fn read_run(alloc: Global, text: &str) -> Result<Run, Refused>
+    ensures line { IfErr result (λ refused. 1 ≤ refused.line) }
+{
+    let mut reader = match read_head(alloc, text.lines().next().unwrap_or("")) {
         Ok(reader) => reader,
         Err(why) => return Err(Refused { line: 1, why }),
     };
-    let mut number = 1u64;
-    for line in lines {
-        number = number.saturating_add(1);
-        match read_step(alloc, &mut reader, line) {
-            Ok(()) => {}
-            Err(why) => return Err(Refused { line: number, why }),
+    for (place, line) in text.lines().enumerate().skip(1) {
+        if let Err(why) = read_step(alloc, &mut reader, line) {
+            let line = (place as u64).saturating_add(1);
+            return Err(Refused { line, why });
         }
     }
     Ok(reader.into_run())

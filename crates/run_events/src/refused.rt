@@ -4,7 +4,7 @@ use std::alloc::AllocError;
 use thiserror::Error;
 
 /// What is wrong with a line.
-#[derive(Clone, Copy, Debug, PartialEq, Eq, Error)]
+#[derive(Clone, Copy, Debug, Error)]
 pub enum Why {
     /// It is no JSON, or nested too deep.
     #[error("it is no JSON")]
@@ -48,7 +48,7 @@ impl From<AllocError> for Why {
 }
 
 /// A line that is none of a journal.
-#[derive(Clone, Copy, Debug, PartialEq, Eq, Error)]
+#[derive(Clone, Copy, Debug, Error)]
 #[error("line {line}: {why}")]
 pub struct Refused {
     /// Its number, from 1.

@@ -14,7 +14,7 @@ pub enum Lane {
 }
 
 /// A file, a directory, or none, by its numbers.
-#[derive(Clone, Copy, PartialEq, Eq, PartialOrd, Ord)]
+#[derive(Clone, Copy, PartialEq, Eq)]
 pub struct FileId {
     /// The fileset's.
     pub fileset: u64,
@@ -25,7 +25,7 @@ pub struct FileId {
 }
 
 /// By what a step is shown.
-#[derive(Clone, Copy, PartialEq, Eq)]
+#[derive(Clone, Copy)]
 pub enum Sign {
     /// A line, which a host's stop isn't.
     Line,
@@ -51,7 +51,6 @@ pub struct Said {
 }
 
 /// A step.
-#[derive(Drop)]
 pub struct Event {
     /// Where it is.
     pub lane: Lane,
@@ -67,8 +66,20 @@ pub struct Event {
     pub files: Vec<FileId>,
 }
 
+impl Drop for Event {
+    fn drop(self) {
+        let Event {
+            lane: _,
+            sign: _,
+            title: _,
+            said: _,
+            paths: _,
+            files: _,
+        } = self;
+    }
+}
+
 /// What can be seen of a run.
-#[derive(Drop)]
 pub struct Run {
     /// How many hosts there are, beside the setup host.
     pub hosts: u64,
@@ -82,4 +93,17 @@ pub struct Run {
     pub holds: Vec<Hold>,
     /// Which files have which paths.
     pub files: Files,
+}
+
+impl Drop for Run {
+    fn drop(self) {
+        let Run {
+            hosts: _,
+            servers: _,
+            events: _,
+            arrows: _,
+            holds: _,
+            files: _,
+        } = self;
+    }
 }

@@ -107,7 +107,7 @@ impl Reader {
         };
         let place = self.events.len();
         for leave in list_at(step, "dropped").ok_or(Why::Dropped)?.iter() {
-            let file = self.holds.drop_token(alloc, leave, place)?;
+            let file = self.holds.drop_token(leave, place)?;
             event.files.push(file).map_err(AllocError::from)?;
         }
         self.take_tokens(alloc, host, event, step)

@@ -1,12 +1,16 @@
 //! Text that is put together.
 
+ghost use Rattle.std.specs.Prelude.{◌≡◌, ◌++◌, ◌×◌, true, IfOk, string_bytes, encode_utf8};
+
 use std::alloc::{AllocError, Global};
 
 /// Text that is put together. Where memory runs out, that is noted, and told at the end.
 #[derive(Drop)]
 pub struct Text {
-    text: String,
-    has_failed: bool,
+    /// What was written.
+    pub text: String,
+    /// Whether nothing lacks in it.
+    pub is_whole: bool,
 }
 
 impl Text {
@@ -14,43 +18,56 @@ impl Text {
     pub fn new(alloc: Global) -> Text {
         Text {
             text: String::new(alloc),
-            has_failed: false,
+            is_whole: true,
         }
     }
 
-    /// The text, if all of it was written.
-    pub fn into_text(self) -> Result<String, AllocError> {
-        let Text { text, has_failed } = self;
-        if has_failed {
-            return Err(AllocError);
-        }
-        Ok(text)
+    /// The text, if all of it was written; else memory ran out.
+    pub fn into_text(self) -> Result<String, AllocError>
+        ensures whole { IfOk result (λ text. (text ≡ self.text) × (self.is_whole ≡ true)) }
+    {
+        let Text { text, is_whole } = self;
+        if is_whole { Ok(text) } else { Err(AllocError) }
     }
 
     /// Adds text as it is.
-    pub fn word(&mut self, word: &str) {
-        let written = self.text.push_str(word);
-        self.has_failed |= written.is_err();
+    pub fn word(&mut self, word: &str)
+        ensures added { self.new.is_whole ≡ true →
+            string_bytes self.new.text ≡ string_bytes self.old.text ++ word.now }
+    {
+        match self.text.push_str(word) {
+            Ok(()) => {}
+            Err(_) => self.is_whole = false,
+        }
     }
 
     /// Adds a letter as it is.
-    pub fn letter(&mut self, letter: char) {
-        let written = self.text.push(letter);
-        self.has_failed |= written.is_err();
+    pub fn letter(&mut self, letter: char)
+        ensures added { self.new.is_whole ≡ true →
+            string_bytes self.new.text ≡ string_bytes self.old.text ++ encode_utf8 letter }
+    {
+        match self.text.push(letter) {
+            Ok(()) => {}
+            Err(_) => self.is_whole = false,
+        }
     }
 
-    /// Adds a number.
+    /// Adds a number, in decimal digits.
     pub fn number(&mut self, number: u64) {
         let text = &mut self.text;
-        let written = write!(text, "{number}");
-        self.has_failed |= written.is_err();
+        match write!(text, "{number}") {
+            Ok(()) => {}
+            Err(_) => self.is_whole = false,
+        }
     }
 
-    /// Adds the two digits of a letter below 256 in base 16, or more.
+    /// Adds a letter by its number: `\xNN`.
     pub(crate) fn digits(&mut self, letter: char) {
         let number = u32::from(letter);
         let text = &mut self.text;
-        let written = write!(text, "\\x{number:02x}");
-        self.has_failed |= written.is_err();
+        match write!(text, "\\x{number:02x}") {
+            Ok(()) => {}
+            Err(_) => self.is_whole = false,
+        }
     }
 }

@@ -86,12 +86,12 @@ impl Ways {
     ) -> Result<(), Why> {
         let body = message.get("body").ok_or(Why::Sent)?;
         let text = message.to_string(alloc)?;
-        let label = label_of(alloc, body)?;
-        let title = title_of(alloc, body)?;
         let earlier = self.untaken(text.as_str());
         self.next
             .insert(text, self.arrows.len())
             .map_err(AllocError::from)?;
+        let label = label_of(alloc, body)?;
+        let title = title_of(alloc, body)?;
         let arrow = Arrow {
             sender,
             to,

@@ -165,10 +165,18 @@ fn put_facts(text: &mut Text, facts: &Value) {
 
 // Adds the letters of rights: `r` 1, `w` 2, `x` 4, `c` 8, `i` 16, `d` 32.
 fn put_rights(text: &mut Text, rights: u64) {
-    for (weight, letter) in [(1, "r"), (2, "w"), (4, "x"), (8, "c"), (16, "i"), (32, "d")] {
-        if rights / weight % 2 == 1 {
-            text.word(letter);
-        }
+    put_right(text, rights, "r");
+    put_right(text, rights / 2, "w");
+    put_right(text, rights / 4, "x");
+    put_right(text, rights / 8, "c");
+    put_right(text, rights / 16, "i");
+    put_right(text, rights / 32, "d");
+}
+
+// Adds the letter of a right where the number is odd.
+fn put_right(text: &mut Text, rights: u64, letter: &str) {
+    if rights % 2 == 1 {
+        text.word(letter);
     }
 }
 

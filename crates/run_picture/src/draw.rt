@@ -1,5 +1,7 @@
 //! The picture.
 
+ghost use Rattle.std.specs.Prelude.{◌≡◌, ◌++◌, ◌×◌, ℕ, List, IfOk, codes, string_bytes};
+
 use crate::choice::{Choice, Shown};
 use crate::page::Page;
 use crate::svg::{
@@ -35,8 +37,11 @@ triangle, slanted: answered from cache";
 const BARS: &str = "bars: tokens that are held, filled where they let the host change something; \
 plain: bytes, dotted: status, dashed: open file";
 
-/// A picture of a run: an SVG that stands alone.
-pub fn picture_of(alloc: Global, run: &Run, shown: Shown<'_>) -> Result<String, AllocError> {
+/// A picture of a run: an SVG that stands alone, whole to its last line; without memory there is none.
+pub fn picture_of(alloc: Global, run: &Run, shown: Shown<'_>) -> Result<String, AllocError>
+    ensures whole { IfOk result
+        (λ picture. (front : List ℕ) × (string_bytes picture ≡ front ++ codes "</svg>\n")) }
+{
     let choice = Choice::new(alloc, run, shown)?;
     let page = Page::new(alloc, run, &choice)?;
     let mut svg = Text::new(alloc);
