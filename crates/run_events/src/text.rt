@@ -1,6 +1,6 @@
 //! Text that is put together.
 
-ghost use Rattle.std.specs.Prelude.{◌≡◌, ◌++◌, ◌×◌, true, IfOk, string_bytes, encode_utf8};
+ghost use Rattle.std.specs.Prelude.{◌≡◌, ◌++◌, true, IfOk, string_bytes, encode_utf8};
 
 use std::alloc::{AllocError, Global};
 

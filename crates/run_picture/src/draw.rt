@@ -1,6 +1,6 @@
 //! The picture.
 
-ghost use Rattle.std.specs.Prelude.{◌≡◌, ◌++◌, ◌×◌, ℕ, List, IfOk, codes, string_bytes};
+ghost use Rattle.std.specs.Prelude.{◌≡◌, ◌++◌, ℕ, List, IfOk, codes, string_bytes};
 
 use crate::choice::{Choice, Shown};
 use crate::page::Page;
