@@ -5,7 +5,7 @@ use run_events::{Lane, Run};
 use std::alloc::{AllocError, Global};
 
 // Between two lines.
-const ACROSS: u64 = 250;
+const ACROSS: u64 = 280;
 // Between two steps.
 const DOWN: u64 = 24;
 // Where the first line and the first step are.

@@ -24,7 +24,7 @@ impl Point {
 }
 
 /// How much of a text is shown, in letters.
-pub(crate) const SHORT: usize = 38;
+pub(crate) const SHORT: usize = 30;
 
 /// Adds text with the letters escaped that XML gives a meaning, or doesn't have.
 pub(crate) fn put_escaped(svg: &mut Text, text: &str) {
