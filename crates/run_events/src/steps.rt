@@ -29,9 +29,9 @@ impl Reader {
             files: Vec::new(alloc),
         };
         self.take_message(alloc, &mut event, cause)?;
+        self.say(alloc, &mut event, step)?;
         self.send_messages(alloc, &mut event, step)?;
         self.move_tokens(alloc, &mut event, step)?;
-        self.say(alloc, &mut event, step)?;
         self.events.push(event).map_err(AllocError::from)?;
         Ok(())
     }
@@ -189,7 +189,7 @@ impl Reader {
     }
 }
 
-/// A node's line, from a node.
+// A node's line, from a node.
 fn lane_of(node: &Value) -> Option<Lane> {
     let (name, number) = case_of(node)?;
     let number = number.as_u64()?;

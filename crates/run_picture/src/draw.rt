@@ -207,8 +207,7 @@ fn put_arrow(svg: &mut Text, page: &Page, arrow: &Arrow) {
         put_lost(svg, page, arrow);
     }
     for (nth, step) in arrow.taken.iter().enumerate() {
-        let is_shown = page.has_step(arrow.from) || page.has_step(*step);
-        if is_shown || page.row(arrow.from) < page.row(*step) {
+        if page.has_step(arrow.from) || page.has_step(*step) {
             put_way(svg, page, arrow, nth, *step);
         }
     }
@@ -319,8 +318,8 @@ fn put_said(svg: &mut Text, at: Point, said: &Said) {
     put_words(svg, class, at.below(4), said.words.as_str());
 }
 
-// A step's shape: a box for what begins or ends a node, a triangle for an answer from cache, a dot for a line, a ring for
-// what the node does by itself.
+// A step's shape: a box for what begins or ends a node, a triangle for an answer from cache, a square for another line
+// and for a message, a diamond for what the node does by itself.
 fn put_sign(svg: &mut Text, at: Point, sign: Sign, is_cached: bool, title: &str) {
     match sign {
         Sign::Restart => put_box(svg, at, "restart", title),

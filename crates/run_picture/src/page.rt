@@ -1,18 +1,18 @@
 //! Where everything is on the page. Lengths are in points.
 
 use crate::choice::Choice;
-use run_events::{Lane, Run};
+use run_events::{Arrow, Lane, Run};
 use std::alloc::{AllocError, Global};
 
-// Between two lines.
+// From one line to the next.
 const ACROSS: u64 = 280;
-// Between two steps.
+// From one step to the next.
 const DOWN: u64 = 24;
-// Where the first line and the first step are.
+// Left of the first line.
 const LEFT: u64 = 150;
-
+// Above the row before the first step.
 const TOP: u64 = 70;
-// Below the last step.
+// Below the row after the last step.
 const FOOT: u64 = 60;
 
 /// How far down a step is.
@@ -47,7 +47,7 @@ impl Page {
         let last = rows.iter().filter(|row| row.is_shown).count() as u64;
         let first = match choice.shown.host {
             Some(host) => host,
-            None if has_setup(run, rows.as_slice()) => 0,
+            None if has_setup(run, choice, rows.as_slice()) => 0,
             None => 1,
         };
         let hosts = match choice.shown.host {
@@ -172,10 +172,24 @@ fn rows_of(
     Ok(rows)
 }
 
-// Whether the setup host does something on the page.
-fn has_setup(run: &Run, rows: &[Row]) -> bool {
-    run.events
+// Whether the setup host does something on the page, or is sent a message there.
+fn has_setup(run: &Run, choice: &Choice<'_>, rows: &[Row]) -> bool {
+    let setup = Lane::Host(0);
+    let has_step = run
+        .events
         .iter()
         .zip(rows.iter())
-        .any(|(event, row)| row.is_shown && event.lane == Lane::Host(0))
+        .any(|(event, row)| row.is_shown && event.lane == setup);
+    has_step
+        || run.arrows.iter().any(|arrow| arrow.to == setup
+            && choice.has_arrow(arrow)
+            && is_begun(rows, arrow))
+}
+
+// Whether the step that sent a message is shown.
+fn is_begun(rows: &[Row], arrow: &Arrow) -> bool {
+    match rows.get(arrow.from) {
+        Some(row) => row.is_shown,
+        None => false,
+    }
 }
