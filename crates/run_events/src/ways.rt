@@ -171,7 +171,7 @@ fn title_of(alloc: Global, body: &Value) -> Result<String, AllocError> {
             text.word(" number ");
             text.number(number);
         }
-        if let Some(file) = about.get("fid") {
+        if let (Some(file), Some(_)) = (about.get("fid"), message_file(holds)) {
             text.word(" of ");
             put_file(&mut text, file);
         }
