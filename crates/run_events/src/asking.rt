@@ -1,12 +1,23 @@
 //! The calls of hosts: which are open, and where each gets its reply.
 
-use crate::members::{case_of, is_true_at, number_at};
-use crate::run::Said;
-use crate::text::Text;
-use crate::words::{put_call, put_reply};
+use crate::run::{How, Said};
+use run_words::{Text, case_of, is_true_at, number_at, put_call, put_reply};
 use serde_json::Value;
 use std::alloc::{AllocError, Global};
 use std::collections::BTreeMap;
+
+/// A call that a host waits for.
+#[derive(Drop)]
+pub struct Wait {
+    /// The host.
+    pub host: u64,
+    /// The place of the step that began it, from 0.
+    pub from: usize,
+    /// The place of the step where it was answered, or where the host went down.
+    pub until: Option<usize>,
+    /// The call.
+    pub words: String,
+}
 
 // A call that a host began and that isn't answered.
 #[derive(Drop)]
@@ -17,12 +28,17 @@ struct Open {
     number: u64,
     // The call with its reply, once a server has decided it.
     decided: Option<String>,
+    // Its place among those that hosts waited for.
+    place: usize,
 }
 
-/// The open calls, by host: a host has at most one.
+/// The calls of hosts.
 #[derive(Drop)]
 pub(crate) struct Asking {
+    // Those that were begun last, by host: a host has at most one that is open.
     open: BTreeMap<u64, Open>,
+    // Those that hosts waited for.
+    waits: Vec<Wait>,
 }
 
 impl Asking {
@@ -30,18 +46,50 @@ impl Asking {
     pub(crate) fn new(alloc: Global) -> Asking {
         Asking {
             open: BTreeMap::new(alloc),
+            waits: Vec::new(alloc),
         }
     }
 
+    /// The calls that hosts waited for.
+    pub(crate) fn into_waits(self) -> Vec<Wait> {
+        let Asking { open: _, waits } = self;
+        waits
+    }
+
     /// A host begins a call, and leaves it open.
-    pub(crate) fn ask(&mut self, host: u64, asked: &Value) -> Result<(), AllocError> {
+    pub(crate) fn ask(
+        &mut self,
+        alloc: Global,
+        host: u64,
+        asked: &Value,
+        step: usize,
+    ) -> Result<(), AllocError> {
         let open = Open {
             k: number_at(asked, "k").unwrap_or(0),
             number: 0,
             decided: None,
+            place: self.waits.len(),
         };
         self.open.insert(host, open)?;
+        let wait = Wait {
+            host,
+            from: step,
+            until: None,
+            words: call_words(alloc, asked)?,
+        };
+        self.waits.push(wait)?;
         Ok(())
+    }
+
+    /// A host answers its open call, or goes down: it waits no more.
+    pub(crate) fn end_wait(&mut self, host: u64, step: usize) {
+        if let Some(open) = self.open.get(&host) {
+            if let Some(wait) = self.waits.get_mut(open.place) {
+                if wait.until.is_none() {
+                    wait.until = Some(step);
+                }
+            }
+        }
     }
 
     /// A host tells a server of the call `k` under a number.
@@ -92,21 +140,36 @@ fn told_number(body: &Value) -> Option<u64> {
 /// A call that is begun and left open.
 pub(crate) fn begun(alloc: Global, asked: &Value) -> Result<Said, AllocError> {
     let mut text = Text::new(alloc);
-    if let Some(call) = asked.get("call") {
-        put_call(&mut text, call);
-    }
+    put_asked(&mut text, asked);
     text.word(" ..");
     Ok(Said {
         words: text.into_text()?,
-        is_cached: false,
+        how: How::Begun,
     })
+}
+
+fn call_words(alloc: Global, asked: &Value) -> Result<String, AllocError> {
+    let mut text = Text::new(alloc);
+    put_asked(&mut text, asked);
+    text.into_text()
+}
+
+fn put_asked(text: &mut Text, asked: &Value) {
+    if let Some(call) = asked.get("call") {
+        put_call(text, call);
+    }
 }
 
 /// What a host answers.
 pub(crate) fn answered(alloc: Global, answer: &Value) -> Result<Said, AllocError> {
+    let is_cached = is_true_at(answer, "first");
     Ok(Said {
         words: answer_words(alloc, answer)?,
-        is_cached: is_true_at(answer, "first"),
+        how: if is_cached {
+            How::Cached
+        } else {
+            How::Answered
+        },
     })
 }
 
@@ -119,7 +182,7 @@ pub(crate) fn decided(alloc: Global, answer: &Value) -> Result<Said, AllocError>
     put_answer(&mut text, answer);
     Ok(Said {
         words: text.into_text()?,
-        is_cached: false,
+        how: How::Decided,
     })
 }
 

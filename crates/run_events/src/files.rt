@@ -1,8 +1,7 @@
 //! Which files have which paths, as far as the journal tells it: by the tree at the start, by the names of directories
 //! that servers tell, and by the filesets that hosts enter.
 
-use crate::members::{case_of, file_of, is_true_at, list_at, number_at, text_at};
-use crate::run::FileId;
+use run_words::{FileId, case_of, file_of, is_true_at, list_at, number_at, text_at};
 use serde_json::Value;
 use std::alloc::{AllocError, Global};
 use std::collections::BTreeMap;

@@ -1,10 +1,7 @@
 //! The tokens of hosts: from which step to which each is held.
 
-use crate::members::{case_of, file_of, is_true_at, number_at, text_at};
 use crate::refused::Why;
-use crate::run::FileId;
-use crate::text::Text;
-use crate::words::{put_file, put_kind};
+use run_words::{FileId, Text, case_of, file_of, is_true_at, number_at, put_file, put_kind, text_at};
 use serde_json::Value;
 use std::alloc::{AllocError, Global};
 use std::collections::{BTreeMap, BTreeSet};
@@ -48,8 +45,8 @@ pub struct Hold {
     pub why: String,
 }
 
-// A token, by its server, epoch and number.
-type TokenKey = (u64, u64, u64);
+// A token's server, epoch and number.
+type TokenId = (u64, u64, u64);
 
 // A place beside a host's line, by the host and how far it is, from 0.
 type Beside = (u64, u64);
@@ -59,8 +56,8 @@ type Beside = (u64, u64);
 pub(crate) struct Holds {
     // Each of them, as they were taken.
     all: Vec<Hold>,
-    // Those that are held, by their place in the list.
-    held: BTreeMap<TokenKey, usize>,
+    // Their places in the list.
+    places: BTreeMap<TokenId, usize>,
     // The places where one stands.
     used: BTreeSet<Beside>,
 }
@@ -70,7 +67,7 @@ impl Holds {
     pub(crate) fn new(alloc: Global) -> Holds {
         Holds {
             all: Vec::new(alloc),
-            held: BTreeMap::new(alloc),
+            places: BTreeMap::new(alloc),
             used: BTreeSet::new(alloc),
         }
     }
@@ -79,7 +76,7 @@ impl Holds {
     pub(crate) fn into_holds(self) -> Vec<Hold> {
         let Holds {
             all,
-            held: _,
+            places: _,
             used: _,
         } = self;
         all
@@ -93,13 +90,13 @@ impl Holds {
         token: &Value,
         step: usize,
     ) -> Result<FileId, Why> {
-        let key = key_of(token).ok_or(Why::Taken)?;
+        let id = token.get("id").and_then(id_of).ok_or(Why::Taken)?;
         let file = token.get("fid").and_then(file_of).ok_or(Why::Taken)?;
         let kind = kind_of(token).ok_or(Why::Taken)?;
         let place = self.free_place(host);
         self.used.insert((host, place)).map_err(AllocError::from)?;
-        self.held
-            .insert(key, self.all.len())
+        self.places
+            .insert(id, self.all.len())
             .map_err(AllocError::from)?;
         let words = words_of(alloc, token)?;
         let hold = Hold {
@@ -120,18 +117,27 @@ impl Holds {
     /// A token leaves its host.
     pub(crate) fn drop_token(&mut self, leave: &Value, step: usize) -> Result<FileId, Why> {
         let token = leave.get("token").ok_or(Why::Dropped)?;
-        let key = key_of(token).ok_or(Why::Dropped)?;
+        let id = token.get("id").and_then(id_of).ok_or(Why::Dropped)?;
         let file = token.get("fid").and_then(file_of).ok_or(Why::Dropped)?;
         let why = text_at(leave, "why").ok_or(Why::Dropped)?;
-        let Some(at) = self.held.remove(&key) else {
+        let Some(place) = self.places.get(&id) else {
             return Ok(file);
         };
-        if let Some(hold) = self.all.get_mut(at) {
-            hold.until = Some(step);
-            hold.why.push_str(why)?;
-            self.used.remove(&(hold.host, hold.place));
+        if let Some(hold) = self.all.get_mut(*place) {
+            if hold.until.is_none() {
+                hold.until = Some(step);
+                hold.why.push_str(why)?;
+                self.used.remove(&(hold.host, hold.place));
+            }
         }
         Ok(file)
+    }
+
+    /// The kind of the token of an id, in words: none where no host took it.
+    pub(crate) fn kind_of_id(&self, id: &Value) -> Option<&'static str> {
+        let place = *self.places.get(&id_of(id)?)?;
+        let hold = self.all.get(place)?;
+        Some(kind_words(hold.kind, hold.is_update))
     }
 
     // The first place beside a host's line where none stands.
@@ -145,8 +151,7 @@ impl Holds {
     }
 }
 
-fn key_of(token: &Value) -> Option<TokenKey> {
-    let id = token.get("id")?;
+fn id_of(id: &Value) -> Option<TokenId> {
     let server = number_at(id, "server")?;
     let epoch = number_at(id, "epoch")?;
     Some((server, epoch, number_at(id, "seq")?))
@@ -160,6 +165,23 @@ fn kind_of(token: &Value) -> Option<HoldKind> {
         "lock" => Some(HoldKind::Lock),
         "opening" => Some(HoldKind::Opening),
         _ => None,
+    }
+}
+
+/// The kind of a token, or of what is needed, in words.
+pub(crate) fn kind_of_token(token: &Value) -> Option<&'static str> {
+    Some(kind_words(kind_of(token)?, is_update(token)))
+}
+
+fn kind_words(kind: HoldKind, is_update: bool) -> &'static str {
+    match (kind, is_update) {
+        (HoldKind::Bytes, true) => "bytes update",
+        (HoldKind::Bytes, false) => "bytes",
+        (HoldKind::Status, true) => "status update",
+        (HoldKind::Status, false) => "status",
+        (HoldKind::Lock, true) => "write lock",
+        (HoldKind::Lock, false) => "read lock",
+        (HoldKind::Opening, _) => "open file",
     }
 }
 

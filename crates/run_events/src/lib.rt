@@ -6,20 +6,18 @@
 mod asking;
 mod files;
 mod holds;
-mod members;
+mod labels;
 mod reader;
 mod reading;
 mod refused;
 mod run;
 mod steps;
-mod text;
 mod ways;
-mod words;
 
+pub use asking::Wait;
 pub use files::Files;
 pub use holds::{Hold, HoldKind};
 pub use reading::read_run;
 pub use refused::{Refused, Why};
-pub use run::{Event, FileId, Lane, Run, Said, Sign};
-pub use text::Text;
+pub use run::{Event, How, Lane, Run, Said, Sign};
 pub use ways::Arrow;

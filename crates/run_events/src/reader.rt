@@ -3,10 +3,10 @@
 use crate::asking::Asking;
 use crate::files::Files;
 use crate::holds::Holds;
-use crate::members::{list_at, number_at};
 use crate::refused::Why;
 use crate::run::{Event, Run};
 use crate::ways::Ways;
+use run_words::{list_at, number_at};
 use serde_json::Value;
 use std::alloc::Global;
 
@@ -72,7 +72,7 @@ impl Reader {
             events,
             ways,
             holds,
-            asking: _,
+            asking,
             files,
         } = self;
         Run {
@@ -81,6 +81,7 @@ impl Reader {
             events,
             arrows: ways.into_arrows(),
             holds: holds.into_holds(),
+            waits: asking.into_waits(),
             files,
         }
     }

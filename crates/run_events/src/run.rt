@@ -1,8 +1,10 @@
 //! What can be seen of a run.
 
+use crate::asking::Wait;
 use crate::files::Files;
 use crate::holds::Hold;
 use crate::ways::Arrow;
+use run_words::FileId;
 
 /// A node's line.
 #[derive(Clone, Copy, PartialEq, Eq)]
@@ -11,17 +13,6 @@ pub enum Lane {
     Host(u64),
     /// That of a server.
     Server(u64),
-}
-
-/// A file, a directory, or none, by its numbers.
-#[derive(Clone, Copy, PartialEq, Eq)]
-pub struct FileId {
-    /// The fileset's.
-    pub fileset: u64,
-    /// The anode's.
-    pub anode: u64,
-    /// The how-manieth object of the anode it is.
-    pub unique: u64,
 }
 
 /// By what a step is shown.
@@ -41,13 +32,26 @@ pub enum Sign {
     End,
 }
 
+/// How a step is about a call.
+#[derive(Clone, Copy, PartialEq, Eq)]
+pub enum How {
+    /// A host begins it, and waits.
+    Begun,
+    /// A host answers it in the step that begins it: from its cache.
+    Cached,
+    /// A host answers it later, or learns its reply.
+    Answered,
+    /// A server decides it.
+    Decided,
+}
+
 /// A call beside a node's line.
 #[derive(Drop)]
 pub struct Said {
-    /// The call, and its reply where it is answered.
+    /// The call, and its reply where there is one.
     pub words: String,
-    /// Whether the host answered it in the step that began it: from its cache.
-    pub is_cached: bool,
+    /// How the step is about it.
+    pub how: How,
 }
 
 /// A step.
@@ -91,6 +95,8 @@ pub struct Run {
     pub arrows: Vec<Arrow>,
     /// The tokens, as they were taken.
     pub holds: Vec<Hold>,
+    /// The calls that hosts waited for, as they began.
+    pub waits: Vec<Wait>,
     /// Which files have which paths.
     pub files: Files,
 }
@@ -103,6 +109,7 @@ impl Drop for Run {
             events: _,
             arrows: _,
             holds: _,
+            waits: _,
             files: _,
         } = self;
     }

@@ -1,13 +1,13 @@
 //! A step of a journal, read.
 
 use crate::asking::{answered, begun, decided};
-use crate::members::{case_of, list_at, name_of, number_at};
+use crate::holds::Holds;
+use crate::labels::{body_file, label_of};
 use crate::reader::Reader;
 use crate::refused::Why;
-use crate::run::{Event, FileId, Lane, Said, Sign};
-use crate::text::Text;
-use crate::ways::{body_file, label_of, receiver};
-use crate::words::put_path;
+use crate::run::{Event, How, Lane, Said, Sign};
+use crate::ways::receiver;
+use run_words::{FileId, Text, case_of, list_at, name_of, number_at, put_path};
 use serde_json::Value;
 use std::alloc::{AllocError, Global};
 
@@ -23,7 +23,7 @@ impl Reader {
         let mut event = Event {
             lane,
             sign,
-            title: title_of(alloc, cause)?,
+            title: title_of(alloc, &self.holds, cause)?,
             said: Vec::new(alloc),
             paths: Vec::new(alloc),
             files: Vec::new(alloc),
@@ -60,11 +60,9 @@ impl Reader {
         push_file(event, body_file(body))?;
         if let Lane::Host(host) = event.lane {
             if let Some(words) = self.asking.learn(host, body) {
-                let said = Said {
-                    words,
-                    is_cached: false,
-                };
-                event.said.push(said)?;
+                self.asking.end_wait(host, self.events.len());
+                let how = How::Answered;
+                event.said.push(Said { words, how })?;
             }
         }
         Ok(())
@@ -88,7 +86,7 @@ impl Reader {
             return Err(Why::Sent);
         }
         self.ways
-            .send(alloc, (event.lane, to), message, self.events.len())?;
+            .send(alloc, &self.holds, (event.lane, to), message, self.events.len())?;
         self.files.note_message(alloc, message)?;
         let Some(body) = message.get("body") else {
             return Ok(());
@@ -149,10 +147,11 @@ impl Reader {
                 .push(answered(alloc, answer)?)
                 .map_err(AllocError::from)?;
             push_paths(alloc, event, answer)?;
+            self.asking.end_wait(host, self.events.len());
         }
         if let Some(asked) = step.get("asked") {
             if asked.is_object() {
-                self.asking.ask(host, asked)?;
+                self.asking.ask(alloc, host, asked, self.events.len())?;
                 event
                     .said
                     .push(begun(alloc, asked)?)
@@ -161,6 +160,9 @@ impl Reader {
             }
         }
         self.tell_gives(host, step);
+        if matches!(event.sign, Sign::Stop) {
+            self.asking.end_wait(host, self.events.len());
+        }
         Ok(())
     }
 
@@ -223,10 +225,10 @@ fn says_down(message: &Value) -> bool {
 }
 
 // What caused a step, in words.
-fn title_of(alloc: Global, cause: &Value) -> Result<String, AllocError> {
+fn title_of(alloc: Global, holds: &Holds, cause: &Value) -> Result<String, AllocError> {
     match cause.get("message") {
         Some(message) => match message.get("body") {
-            Some(body) => label_of(alloc, body),
+            Some(body) => label_of(alloc, holds, body),
             None => Ok(String::new(alloc)),
         },
         None => own_title(alloc, cause),

@@ -1,10 +1,10 @@
 //! The ways of messages: which step took what another sent.
 
-use crate::members::{case_of, message_file, name_of, number_at, text_at};
+use crate::holds::Holds;
+use crate::labels::{body_file, label_of, title_of};
 use crate::refused::Why;
-use crate::run::{FileId, Lane};
-use crate::text::Text;
-use crate::words::{put_file, put_reply};
+use crate::run::Lane;
+use run_words::{FileId, case_of, number_at, text_at};
 use serde_json::Value;
 use std::alloc::{AllocError, Global};
 use std::collections::BTreeMap;
@@ -18,7 +18,7 @@ pub struct Arrow {
     pub to: Lane,
     /// The place of the step that sent it, from 0.
     pub from: usize,
-    /// Its kind, and what it says in a word.
+    /// What it says, in few words.
     pub label: String,
     /// Its number and its file, where it has them.
     pub title: String,
@@ -76,10 +76,11 @@ impl Ways {
         Ok(())
     }
 
-    /// A step of a node sends a message to another.
+    /// A step of a node sends a message to another. The tokens that it names are among those that were taken.
     pub(crate) fn send(
         &mut self,
         alloc: Global,
+        holds: &Holds,
         (sender, to): (Lane, Lane),
         message: &Value,
         step: usize,
@@ -90,7 +91,7 @@ impl Ways {
         self.next
             .insert(text, self.arrows.len())
             .map_err(AllocError::from)?;
-        let label = label_of(alloc, body)?;
+        let label = label_of(alloc, holds, body)?;
         let title = title_of(alloc, body)?;
         let arrow = Arrow {
             sender,
@@ -118,12 +119,6 @@ impl Ways {
     }
 }
 
-/// The file that a message of this body is about.
-pub(crate) fn body_file(body: &Value) -> Option<FileId> {
-    let (_, holds) = case_of(body)?;
-    message_file(holds)
-}
-
 /// To whom a message goes.
 pub(crate) fn receiver(message: &Value) -> Option<Lane> {
     match text_at(message, "direction")? {
@@ -135,46 +130,4 @@ pub(crate) fn receiver(message: &Value) -> Option<Lane> {
         }
         _ => None,
     }
-}
-
-/// A message's kind, and of what is done the outcome.
-pub(crate) fn label_of(alloc: Global, body: &Value) -> Result<String, AllocError> {
-    let mut text = Text::new(alloc);
-    match name_of(body) {
-        Some("give_back") => text.word("give back"),
-        Some("left_out") => text.word("left out"),
-        Some("not_here") => text.word("not here"),
-        Some(name) => text.word(name),
-        None => {}
-    }
-    if let Some(outcome) = body.pointer("/done/outcome") {
-        text.word(": ");
-        put_outcome(&mut text, outcome);
-    }
-    text.into_text()
-}
-
-fn put_outcome(text: &mut Text, outcome: &Value) {
-    match case_of(outcome) {
-        Some(("reply", reply)) => put_reply(text, reply),
-        Some((name, _)) => text.word(name),
-        None => text.word(outcome.as_str().unwrap_or("")),
-    }
-}
-
-// The number of a message's request or give-back, and its file.
-fn title_of(alloc: Global, body: &Value) -> Result<String, AllocError> {
-    let mut text = Text::new(alloc);
-    if let Some((_, holds)) = case_of(body) {
-        let about = holds.get("bring").unwrap_or(holds);
-        if let Some(number) = number_at(about, "number") {
-            text.word(" number ");
-            text.number(number);
-        }
-        if let (Some(file), Some(_)) = (about.get("fid"), message_file(holds)) {
-            text.word(" of ");
-            put_file(&mut text, file);
-        }
-    }
-    text.into_text()
 }

@@ -1,6 +1,7 @@
 //! What is shown of a run.
 
-use run_events::{Arrow, Event, FileId, Hold, Lane, Run};
+use run_events::{Arrow, Event, Hold, Lane, Run, Wait};
+use run_words::FileId;
 use std::alloc::{AllocError, Global};
 
 /// What is shown of a run: the steps from one number to another, of these what concerns a host and a file, where they
@@ -72,6 +73,14 @@ impl<'a> Choice<'a> {
     pub(crate) fn has_hold(&self, hold: &Hold) -> bool {
         let of_file = self.shown.file.is_none() || self.files.contains(&hold.file);
         of_file && self.has_lane(Lane::Host(hold.host))
+    }
+
+    /// Whether a call that a host waits for is about the host and the file: the step that began it is.
+    pub(crate) fn has_wait(&self, run: &Run, wait: &Wait) -> bool {
+        match run.events.get(wait.from) {
+            Some(event) => self.has_event(event),
+            None => false,
+        }
     }
 }
 

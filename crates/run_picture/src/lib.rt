@@ -2,10 +2,14 @@
 //! server has a line.
 #![tactic(auto)]
 
+mod bars;
 mod choice;
 mod draw;
 mod page;
+mod steps;
+mod style;
 mod svg;
+mod ways;
 
 pub use choice::Shown;
 pub use draw::picture_of;

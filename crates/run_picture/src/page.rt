@@ -1,25 +1,29 @@
 //! Where everything is on the page. Lengths are in points.
 
 use crate::choice::Choice;
-use run_events::{Arrow, Lane, Run};
+use run_events::{Arrow, Event, Lane, Run};
 use std::alloc::{AllocError, Global};
 
 // From one line to the next.
-const ACROSS: u64 = 280;
+const ACROSS: u64 = 300;
 // From one step to the next.
-const DOWN: u64 = 24;
+const DOWN: u64 = 28;
+/// From one call of a step to the next.
+pub(crate) const CALL: u64 = 19;
 // Left of the first line.
-const LEFT: u64 = 150;
-// Above the row before the first step.
-const TOP: u64 = 70;
-// Below the row after the last step.
-const FOOT: u64 = 60;
+const LEFT: u64 = 262;
+// Right of the last line.
+const RIGHT: u64 = 232;
+// Above the first step.
+const TOP: u64 = 84;
+// Below the last step.
+const FOOT: u64 = 116;
 
-/// How far down a step is.
+/// Where a step is.
 #[derive(Clone, Copy)]
 pub(crate) struct Row {
-    /// The row, from 1: that of the step before it where it isn't shown, 0 before the page.
-    pub row: u64,
+    /// How far from the top: as far as the step before it where it isn't shown.
+    pub y: u64,
     /// Whether the step is shown.
     pub is_shown: bool,
 }
@@ -29,8 +33,8 @@ pub(crate) struct Row {
 pub(crate) struct Page {
     /// The row of each step of the run.
     pub rows: Vec<Row>,
-    /// How many rows there are.
-    pub last: u64,
+    /// How far from the top the lines end.
+    pub end: u64,
     /// The first host that has a line.
     pub first: u64,
     /// How many hosts have lines.
@@ -43,8 +47,7 @@ impl Page {
     /// The page of a choice.
     pub(crate) fn new(alloc: Global, run: &Run, choice: &Choice<'_>) -> Result<Page, AllocError> {
         let marks = marks_of(alloc, run, choice)?;
-        let rows = rows_of(alloc, run, choice, marks.as_slice())?;
-        let last = rows.iter().filter(|row| row.is_shown).count() as u64;
+        let (rows, end) = rows_of(alloc, run, choice, marks.as_slice())?;
         let first = match choice.shown.host {
             Some(host) => host,
             None if has_setup(run, choice, rows.as_slice()) => 0,
@@ -56,7 +59,7 @@ impl Page {
         };
         Ok(Page {
             rows,
-            last,
+            end,
             first,
             hosts,
             servers: run.servers,
@@ -86,16 +89,11 @@ impl Page {
         LEFT.saturating_add(nth.saturating_mul(ACROSS))
     }
 
-    /// How far from the top a row is.
-    pub(crate) fn y(&self, row: u64) -> u64 {
-        TOP.saturating_add(row.saturating_mul(DOWN))
-    }
-
-    /// The row of a step, of a place from 0: the one below all others where it comes after the page.
-    pub(crate) fn row(&self, step: usize) -> u64 {
+    /// How far from the top the step of a place is, from 0: where the lines end, if there is none.
+    pub(crate) fn y(&self, step: usize) -> u64 {
         match self.rows.as_slice().get(step) {
-            Some(row) => row.row,
-            None => self.end(),
+            Some(row) => row.y,
+            None => self.end,
         }
     }
 
@@ -107,25 +105,22 @@ impl Page {
         }
     }
 
-    /// The row below all others.
-    pub(crate) fn end(&self) -> u64 {
-        self.last.saturating_add(1)
-    }
-
     /// How wide the page is.
     pub(crate) fn width(&self) -> u64 {
-        LEFT.saturating_add(self.lanes().saturating_mul(ACROSS))
+        let between = self.lanes().saturating_sub(1).saturating_mul(ACROSS);
+        LEFT.saturating_add(between).saturating_add(RIGHT)
     }
 
     /// How high the page is.
     pub(crate) fn height(&self) -> u64 {
-        self.y(self.end()).saturating_add(FOOT)
+        self.end.saturating_add(FOOT)
     }
 }
 
-// Which steps sent or took a message that is shown.
+// Which steps sent or took a message that is shown, or end a call that is.
 fn marks_of(alloc: Global, run: &Run, choice: &Choice<'_>) -> Result<Vec<bool>, AllocError> {
     let mut marks = vec![in alloc; false; run.events.len()]?;
+    mark_waits(&mut marks, run, choice);
     for arrow in run.arrows.iter() {
         if choice.has_arrow(arrow) {
             mark(&mut marks, arrow.from);
@@ -133,6 +128,16 @@ fn marks_of(alloc: Global, run: &Run, choice: &Choice<'_>) -> Result<Vec<bool>, 
         }
     }
     Ok(marks)
+}
+
+fn mark_waits(marks: &mut Vec<bool>, run: &Run, choice: &Choice<'_>) {
+    for wait in run.waits.iter() {
+        if choice.has_wait(run, wait) {
+            if let Some(until) = wait.until {
+                mark(marks, until);
+            }
+        }
+    }
 }
 
 fn mark_all(marks: &mut Vec<bool>, steps: &[usize]) {
@@ -147,29 +152,38 @@ fn mark(marks: &mut Vec<bool>, step: usize) {
     }
 }
 
+// The rows of all steps, and where the lines end.
 fn rows_of(
     alloc: Global,
     run: &Run,
     choice: &Choice<'_>,
     marks: &[bool],
-) -> Result<Vec<Row>, AllocError> {
+) -> Result<(Vec<Row>, u64), AllocError> {
     let mut rows = Vec::new(alloc);
-    let mut row = 0u64;
+    let mut y = TOP;
+    let mut next = TOP.saturating_add(DOWN);
     for (place, event) in run.events.iter().enumerate() {
         let number = (place as u64).saturating_add(1);
+        let is_after = number > choice.shown.to;
         let is_marked = marks.get(place).copied() == Some(true);
-        let in_page = choice.shown.from <= number && number <= choice.shown.to;
-        let is_shown = in_page && (is_marked || choice.has_event(event));
-        if is_shown {
-            row = row.saturating_add(1);
+        let is_shown = choice.shown.from <= number
+            && !is_after
+            && (is_marked || choice.has_event(event));
+        if is_shown || is_after {
+            y = next;
         }
-        let below = if number > choice.shown.to { 1 } else { 0 };
-        rows.push(Row {
-            row: row.saturating_add(below),
-            is_shown,
-        })?;
+        if is_shown {
+            next = y.saturating_add(height_of(event));
+        }
+        rows.push(Row { y, is_shown })?;
     }
-    Ok(rows)
+    Ok((rows, next))
+}
+
+// How high a step is, with the calls beside it.
+fn height_of(event: &Event) -> u64 {
+    let further = (event.said.len() as u64).saturating_sub(1);
+    DOWN.saturating_add(further.saturating_mul(CALL))
 }
 
 // Whether the setup host does something on the page, or is sent a message there.

@@ -1,6 +1,6 @@
 //! Parts of an SVG.
 
-use run_events::Text;
+use run_words::Text;
 
 /// A point, by how far it is from the left and from the top.
 #[derive(Clone, Copy)]
@@ -21,10 +21,22 @@ impl Point {
     pub(crate) fn below(self, down: u64) -> Point {
         Point::new(self.x, self.y.saturating_add(down))
     }
-}
 
-/// How much of a text is shown, in letters.
-pub(crate) const SHORT: usize = 30;
+    /// The point so far above.
+    pub(crate) fn above(self, up: u64) -> Point {
+        Point::new(self.x, self.y.saturating_sub(up))
+    }
+
+    /// The point so far to the left.
+    pub(crate) fn left(self, by: u64) -> Point {
+        Point::new(self.x.saturating_sub(by), self.y)
+    }
+
+    /// The point so far to the right.
+    pub(crate) fn right(self, by: u64) -> Point {
+        Point::new(self.x.saturating_add(by), self.y)
+    }
+}
 
 /// Adds text with the letters escaped that XML gives a meaning, or doesn't have.
 pub(crate) fn put_escaped(svg: &mut Text, text: &str) {
@@ -45,11 +57,11 @@ fn put_letter(svg: &mut Text, letter: char) {
 }
 
 /// Adds the first letters of a text, escaped, and two dots where it has more.
-pub(crate) fn put_short(svg: &mut Text, text: &str) {
-    for letter in text.chars().take(SHORT) {
+pub(crate) fn put_short(svg: &mut Text, text: &str, most: usize) {
+    for letter in text.chars().take(most) {
         put_letter(svg, letter);
     }
-    if text.chars().nth(SHORT).is_some() {
+    if text.chars().nth(most).is_some() {
         svg.word("..");
     }
 }
@@ -63,11 +75,23 @@ pub(crate) fn put_at(svg: &mut Text, name: &str, number: u64) {
     svg.word("\"");
 }
 
-/// Adds ` class="words"`.
-pub(crate) fn put_class(svg: &mut Text, words: &str) {
+// Adds ` class="words"`.
+fn put_class(svg: &mut Text, words: &str) {
     svg.word(" class=\"");
     svg.word(words);
     svg.word("\"");
+}
+
+/// Begins a group of a class.
+pub(crate) fn open_group(svg: &mut Text, class: &str) {
+    svg.word("<g");
+    put_class(svg, class);
+    svg.word(">");
+}
+
+/// Ends a group.
+pub(crate) fn close_group(svg: &mut Text) {
+    svg.word("</g>\n");
 }
 
 /// Adds a title.
@@ -77,46 +101,46 @@ pub(crate) fn put_title(svg: &mut Text, words: &str) {
     svg.word("</title>");
 }
 
-/// Adds a line of a class, which may have a title.
-pub(crate) fn put_line(svg: &mut Text, class: &str, from: Point, to: Point, title: &str) {
+/// Adds a line of a class.
+pub(crate) fn put_line(svg: &mut Text, class: &str, from: Point, to: Point) {
     svg.word("<line");
     put_class(svg, class);
     put_at(svg, "x1", from.x);
     put_at(svg, "y1", from.y);
     put_at(svg, "x2", to.x);
     put_at(svg, "y2", to.y);
-    svg.word(">");
-    put_title(svg, title);
-    svg.word("</line>\n");
+    svg.word("/>");
 }
 
-/// Adds words of a class at a point, shortened, and whole as their title.
-pub(crate) fn put_words(svg: &mut Text, class: &str, at: Point, words: &str) {
+/// Begins a text of a class at a point: its words and `</text>` follow.
+pub(crate) fn open_text(svg: &mut Text, class: &str, at: Point) {
     svg.word("<text");
     put_class(svg, class);
     put_at(svg, "x", at.x);
     put_at(svg, "y", at.y);
     svg.word(">");
-    put_short(svg, words);
-    put_title(svg, words);
-    svg.word("</text>\n");
 }
 
-/// Adds a box of a class from a point, with a title.
-pub(crate) fn put_rect(svg: &mut Text, class: &str, at: Point, size: Point, title: &str) {
+/// Adds words of a class at a point.
+pub(crate) fn put_words(svg: &mut Text, class: &str, at: Point, words: &str) {
+    open_text(svg, class, at);
+    put_escaped(svg, words);
+    svg.word("</text>");
+}
+
+/// Adds a box of a class, from its corner.
+pub(crate) fn put_rect(svg: &mut Text, class: &str, at: Point, size: Point) {
     svg.word("<rect");
     put_class(svg, class);
     put_at(svg, "x", at.x);
     put_at(svg, "y", at.y);
     put_at(svg, "width", size.x);
     put_at(svg, "height", size.y);
-    svg.word(">");
-    put_title(svg, title);
-    svg.word("</rect>\n");
+    svg.word("/>");
 }
 
-/// Adds a shape of a class around a point, of the points' moves from there, with a title.
-pub(crate) fn put_shape(svg: &mut Text, class: &str, at: Point, moves: &str, title: &str) {
+/// Adds a shape of a class around a point, of the moves from there.
+pub(crate) fn put_shape(svg: &mut Text, class: &str, at: Point, moves: &str) {
     svg.word("<path");
     put_class(svg, class);
     svg.word(" d=\"M");
@@ -124,7 +148,5 @@ pub(crate) fn put_shape(svg: &mut Text, class: &str, at: Point, moves: &str, tit
     svg.word(" ");
     svg.number(at.y);
     svg.word(moves);
-    svg.word("z\">");
-    put_title(svg, title);
-    svg.word("</path>\n");
+    svg.word("\"/>");
 }

@@ -5,7 +5,7 @@ use crate::text::Text;
 use serde_json::Value;
 
 /// Adds a call, as `read /home/f 0 9`.
-pub(crate) fn put_call(text: &mut Text, call: &Value) {
+pub fn put_call(text: &mut Text, call: &Value) {
     let Some((name, holds)) = case_of(call) else {
         return;
     };
@@ -81,7 +81,7 @@ fn put_place(text: &mut Text, holds: &Value, name: &str) {
 }
 
 /// Adds the path of a place: `/FILESET/NAME/..`.
-pub(crate) fn put_path(text: &mut Text, place: &Value) {
+pub fn put_path(text: &mut Text, place: &Value) {
     text.word("/");
     if let Some(fileset) = text_at(place, "fileset") {
         put_plain(text, fileset);
@@ -118,7 +118,7 @@ fn put_plain(text: &mut Text, bytes: &str) {
 }
 
 /// Adds a reply, as `ok "one"`, or why the call is refused.
-pub(crate) fn put_reply(text: &mut Text, reply: &Value) {
+pub fn put_reply(text: &mut Text, reply: &Value) {
     match case_of(reply) {
         Some(("refused", why)) => put_refusal(text, why),
         Some(("bytes", bytes)) => {
@@ -181,7 +181,7 @@ fn put_right(text: &mut Text, rights: u64, letter: &str) {
 }
 
 /// Adds a kind of tokens, as `bytes update 0..1024`.
-pub(crate) fn put_kind(text: &mut Text, kind: &Value) {
+pub fn put_kind(text: &mut Text, kind: &Value) {
     let Some((name, holds)) = case_of(kind) else {
         return;
     };
@@ -204,7 +204,7 @@ pub(crate) fn put_kind(text: &mut Text, kind: &Value) {
 }
 
 /// Adds a file, as `FILESET.ANODE.UNIQUE`.
-pub(crate) fn put_file(text: &mut Text, file: &Value) {
+pub fn put_file(text: &mut Text, file: &Value) {
     text.number(number_at(file, "fileset").unwrap_or(0));
     text.word(".");
     text.number(number_at(file, "anode").unwrap_or(0));
