@@ -13,9 +13,11 @@ const LATE: usize = 8;
 // So many letters are shown of what a message says.
 const MOST: usize = 44;
 
-// From an arrow's tip to the words beside it, and at a host, where tokens stand beside its line.
+// From an arrow's tip to the words beside it; at a host, beside whose line tokens stand; and at a server from the right,
+// where calls stand.
 const GAP: u64 = 16;
-const HOST_GAP: u64 = 54;
+const TOKENS_GAP: u64 = 54;
+const CALLS_GAP: u64 = 222;
 
 /// Adds the messages.
 pub(crate) fn put_ways(svg: &mut Text, run: &Run, choice: &Choice<'_>, page: &Page) {
@@ -58,12 +60,16 @@ fn put_taken(svg: &mut Text, page: &Page, arrow: &Arrow, nth: usize, step: usize
     open_group(svg, "message");
     put_way_title(svg, arrow, Some(step));
     put_line(svg, way_class(arrow, nth, step), from, to);
-    let gap = match arrow.to {
-        Lane::Host(_) => HOST_GAP,
-        Lane::Server(_) => GAP,
-    };
-    put_along(svg, from, to, gap, arrow.label.as_str());
+    put_along(svg, from, to, gap_of(arrow, from, to), arrow.label.as_str());
     close_group(svg);
+}
+
+fn gap_of(arrow: &Arrow, from: Point, to: Point) -> u64 {
+    match arrow.to {
+        Lane::Host(_) => TOKENS_GAP,
+        Lane::Server(_) if to.x < from.x => CALLS_GAP,
+        Lane::Server(_) => GAP,
+    }
 }
 
 fn way_class(arrow: &Arrow, nth: usize, step: usize) -> &'static str {
