@@ -31,6 +31,14 @@ pub fn picture_of(alloc: Global, run: &Run, shown: Shown<'_>) -> Result<String, 
     put_steps(&mut svg, run, &page);
     put_names(&mut svg, &page);
     put_foot(&mut svg, run, shown, &page);
+    close(svg)
+}
+
+// Ends a picture, whose memory may have run out.
+fn close(svg: Text) -> Result<String, AllocError>
+    ensures ends { IfOk result (λ picture. string_bytes picture ≡ string_bytes svg.text ++ codes "</svg>\n") }
+{
+    let mut svg = svg;
     svg.word("</svg>\n");
     svg.into_text()
 }

@@ -82,12 +82,13 @@ fn way_class(arrow: &Arrow, nth: usize, step: usize) -> &'static str {
     }
 }
 
-// A lost message goes half the way, and ends in a cross.
+// A lost message goes two fifths of the way, and ends in a cross.
 fn put_lost(svg: &mut Text, page: &Page, arrow: &Arrow, before: u64) {
     let from = Point::new(page.x(arrow.sender), page.y(arrow.from));
-    let middle = from.x.saturating_add(page.x(arrow.to)) / 2;
+    let nearer = from.x.saturating_mul(3);
+    let farther = page.x(arrow.to).saturating_mul(2);
     let down = before.saturating_mul(13).saturating_add(14);
-    let to = Point::new(middle, from.y).below(down);
+    let to = Point::new(nearer.saturating_add(farther) / 5, from.y).below(down);
     open_group(svg, "message");
     put_way_title(svg, arrow, None);
     put_line(svg, "lost", from, to);
