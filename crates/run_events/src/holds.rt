@@ -1,7 +1,9 @@
 //! The tokens of hosts: from which step to which each is held.
 
 use crate::refused::Why;
-use run_words::{FileId, Text, case_of, file_of, is_true_at, number_at, put_file, put_kind, text_at};
+use run_words::{
+    FileId, Text, case_of, file_of, is_true_at, number_at, put_file, put_kind, text_at,
+};
 use serde_json::Value;
 use std::alloc::{AllocError, Global};
 use std::collections::{BTreeMap, BTreeSet};

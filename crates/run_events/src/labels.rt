@@ -1,7 +1,9 @@
 //! What messages say.
 
 use crate::holds::{Holds, kind_of_token};
-use run_words::{FileId, Text, case_of, list_at, message_file, name_of, number_at, put_file, put_reply};
+use run_words::{
+    FileId, Text, case_of, list_at, message_file, name_of, number_at, put_file, put_reply,
+};
 use serde_json::Value;
 use std::alloc::{AllocError, Global};
 
@@ -13,11 +15,7 @@ pub(crate) fn body_file(body: &Value) -> Option<FileId> {
 
 /// A message's kind, with the kinds of the tokens that it asks for, brings or names, whether it brings what files hold,
 /// and of what is done the outcome.
-pub(crate) fn label_of(
-    alloc: Global,
-    holds: &Holds,
-    body: &Value,
-) -> Result<String, AllocError> {
+pub(crate) fn label_of(alloc: Global, holds: &Holds, body: &Value) -> Result<String, AllocError> {
     let mut text = Text::new(alloc);
     match name_of(body) {
         Some("give_back") => text.word("give back"),

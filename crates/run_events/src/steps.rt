@@ -85,8 +85,13 @@ impl Reader {
         if !self.has_lane(to) {
             return Err(Why::Sent);
         }
-        self.ways
-            .send(alloc, &self.holds, (event.lane, to), message, self.events.len())?;
+        self.ways.send(
+            alloc,
+            &self.holds,
+            (event.lane, to),
+            message,
+            self.events.len(),
+        )?;
         self.files.note_message(alloc, message)?;
         let Some(body) = message.get("body") else {
             return Ok(());
