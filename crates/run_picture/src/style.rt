@@ -1,8 +1,7 @@
 //! What every picture has.
 
 /// How things look, by their class.
-pub(crate) const STYLE: &str =
-    "<style>text{font:11px Helvetica,Arial,sans-serif;fill:#222}\
+pub(crate) const STYLE: &str = "<style>text{font:11px Helvetica,Arial,sans-serif;fill:#222}\
 .page{fill:#fff}.life{stroke:#b4b4b4}.number{fill:#999;text-anchor:end}.note{fill:#444}\
 .head{fill:#edf2f8;stroke:#8fa5bd}.name{font-weight:bold;font-size:13px;text-anchor:middle}\
 .sent,.late,.again{stroke:#1d4f80;fill:none;marker-end:url(#tip)}.late{stroke-width:2.6}\

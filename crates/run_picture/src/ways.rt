@@ -16,7 +16,9 @@ const MOST: usize = 44;
 // From an arrow's tip to the words beside it; at a host, beside whose line tokens stand; and at a server from the right,
 // where calls stand.
 const GAP: u64 = 16;
+
 const TOKENS_GAP: u64 = 54;
+
 const CALLS_GAP: u64 = 222;
 
 /// Adds the messages.
@@ -119,7 +121,11 @@ fn put_along(svg: &mut Text, from: Point, to: Point, gap: u64, words: &str) {
     let is_right = from.x < to.x;
     let across = to.x.max(from.x).saturating_sub(to.x.min(from.x)).max(1);
     let down = to.y.saturating_sub(from.y);
-    let at = if is_right { to.left(gap) } else { to.right(gap) };
+    let at = if is_right {
+        to.left(gap)
+    } else {
+        to.right(gap)
+    };
     let up = (down.saturating_mul(gap) / across).saturating_add(4);
     svg.word("<text class=\"");
     svg.word(if is_right { "right" } else { "left" });
