@@ -5,4 +5,8 @@ pub mod Staying
 pub mod Doings
 pub mod Arriving
 pub mod Giving
+pub mod Telling
+pub mod Grown
+pub mod Claiming
+pub mod Answering
 pub mod Resting

@@ -7,8 +7,9 @@ use Rattle.script_lines.specs.declared.script.Script.{Script}
 use Rattle.message_types.specs.declared.giving.Give.{Give}
 use Rattle.message_types.specs.declared.message.Body.{Body}
 use Rattle.message_types.specs.declared.message.Body.TheVariants.{Change, Fetch, GiveBack, Hello}
-use Rattle.run_rules.specs.Doings.{Hears, doings_of}
+use Rattle.run_rules.specs.Doings.{HasGoneAway, Hears, doings_of}
 use Rattle.run_rules.specs.HostDue.{IsUnanswered}
+use Rattle.run_rules.specs.HostMay.{AwaitsReclaimed}
 use Rattle.run_rules.specs.Messages.{HasStopped}
 use Rattle.run_rules.specs.Past.{Once, appended}
 use Rattle.run_rules.specs.Runs.{IsDutiful, IsRun, firsts_of, past_of}
@@ -65,3 +66,12 @@ GivesAreKnown =
     (script : Script) (journal : Journal) → IsQuiet script journal → (host : HostId)
     → (HasStopped (steps_of_host host (past_of journal)) → ⊥) → (give : Give)
     → Made (steps_of_host host (past_of journal)) give → IsKnown (steps_of_host host (past_of journal)) give
+
+-- and no claim of a host waits for its answer at a server where the host hasn't gone away, but of a host that has
+-- stopped
+abbrev pub ClaimsAreAnswered : Type 0
+ClaimsAreAnswered =
+    (script : Script) (journal : Journal) → IsQuiet script journal → (host : HostId)
+    → (HasStopped (steps_of_host host (past_of journal)) → ⊥) → (server : ServerId)
+    → (HasGoneAway (doings_of (firsts_of journal server) server (past_of journal)) host → ⊥)
+    → AwaitsReclaimed (steps_of_host host (past_of journal)) server → ⊥
