@@ -604,8 +604,7 @@ module _ (script : Script) (start : Tree) (firsts : ServerId → ℕ) (real : (v
         go (inr f) = elim f.learns.1 [
           | inl (w, cause, server, epoch_is, moves, body) ↦ (
               let k = gone_taken g at_v ends f w cause server epoch_is body in
-              let same : k.0.fid.fileset ≡ o.fileset = ap (λ (y : AppliedGive). y.fileset) k.2 ∙ fileset in
-              (
+              let same : k.0.fid.fileset ≡ o.fileset = ap (λ (y : AppliedGive). y.fileset) k.2 ∙ fileset in (
                 k.0,
                 subst (λ (fs : FilesetId). TookOf v (acts run) host fs (GiveBack k.0)) same k.1,
                 same,
@@ -626,8 +625,14 @@ module _ (script : Script) (start : Tree) (firsts : ServerId → ℕ) (real : (v
                 → w.server ≡ u → w.epoch ≡ epoch_at (own f.before) u → w.moves ≡ 0 → w.body ≡ Reclaimed answer
                 → In (number_of g) answer.applied → ⊥
             answered f u answer w cause server epoch_is moves body among =
-                now.1 answer (w, cause, server ∙ is_v, epoch_is ∙ ap (λ (x : ServerId). epoch_at (own f.before) x) is_v,
-                moves, body)
+                now.1 answer (
+                  w,
+                  cause,
+                  server ∙ is_v,
+                  epoch_is ∙ ap (λ (x : ServerId). epoch_at (own f.before) x) is_v,
+                  moves,
+                  body,
+                )
               where
                 whole : appended (f.step ∷ f.later_on) f.before ≡ run
                 whole = f.at.whole

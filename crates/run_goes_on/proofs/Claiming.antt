@@ -78,7 +78,7 @@ module _ (script : Script) (start : Tree) (firsts : ServerId → ℕ) (host : Ho
       (subst (λ (w : ServerId). ServerDue script start w (steps_of_server w past) (doings_of (firsts w) w past) s) e d)
       old) old
 
-  told : (past : List Step) → StepsMeet script start firsts past
+  pub told : (past : List Step) → StepsMeet script start firsts past
       → Always (λ before s. StepDue script start firsts s.node before s) past → IsToldBy (doings_of (firsts v) v past)
   told [] run due = λ e n sent. elim sent [
     | inl q ↦ absurd (cc)

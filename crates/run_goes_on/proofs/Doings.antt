@@ -348,7 +348,7 @@ module _ (script : Script) (start : Tree) (firsts : ServerId → ℕ) (real : (v
       (doings_of (firsts v) v past)
       (λ e. (let le = epoch_after_step s (doings_of (firsts v) v past) in omega (arith, up, le))) up
 
-  above_first : (past : List Step) (v : ServerId) → 0 < epoch (doings_of (firsts v) v past)
+  pub above_first : (past : List Step) (v : ServerId) → 0 < epoch (doings_of (firsts v) v past)
   above_first [] v = real v
   above_first (s ∷ past) v = above_step v past s s.node (above_first past v)
 

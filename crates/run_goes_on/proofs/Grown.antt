@@ -1,6 +1,8 @@
 -- What is so of a server's doings for good, and how words on them grow and go back over a step.
 use Rattle.std.proofs.Common.{List, [], ap, arith, inl, inr, refl, subst, suc, sym, ℕ, ◌<◌, ◌≤◌, ◌∙◌, ◌∷◌, ◌≡◌, ◌⊎◌}
 use Rattle.base_types.specs.declared.ids.HostId.{HostId}
+use Rattle.base_types.specs.declared.ids.Node.{Node}
+use Rattle.base_types.specs.declared.ids.Node.TheVariants.{Host, Server}
 use Rattle.base_types.specs.declared.ids.ServerId.{ServerId}
 use Rattle.token_types.specs.declared.token.Token.{Token}
 use Rattle.message_types.specs.declared.message.Body.{Body}
@@ -8,7 +10,8 @@ use Rattle.message_types.specs.declared.message.Body.TheVariants.{Hello}
 use Rattle.message_types.specs.declared.message.Message.{Message}
 use Rattle.run_rules.specs.Doings.{Doing, Enlists, HasReclaimed, Hears, InEpoch, IsNewEpoch, Listed, ListedNow, SentTo}
 use Rattle.run_rules.specs.Doings.{admitting, after_admitting}
-use Rattle.run_rules.specs.Doings.{after_cause, after_deciding, after_sending, after_step, deciding, epoch, sending}
+use Rattle.run_rules.specs.Doings.{after_cause, after_deciding, after_sending, after_step, deciding, doings_of, epoch}
+use Rattle.run_rules.specs.Doings.{sending}
 use Rattle.run_rules.specs.Doings.Doing.{Admits, BeginsEpoch, Flushes, MakesWant, Reserves, Sent, Took, WritesDown}
 use Rattle.run_rules.specs.Past.{EachInTurn, In, Once, appended}
 use Rattle.run_rules.specs.ServerTokens.{MayAdmit, ServerTokens}
@@ -21,7 +24,9 @@ use Rattle.run_rules.specs.declared.applied.Written.{Written}
 use Rattle.run_rules.specs.declared.step.Cause.{Cause}
 use Rattle.run_rules.specs.declared.step.Cause.TheVariants.{End, Evict, Flushed, Lapse, Line, Message as Came, Restart}
 use Rattle.run_rules.specs.declared.step.Step.{Step}
-use Rattle.run_goes_on.proofs.Doings.{epoch_on}
+use Rattle.run_tokens.proofs.Words.{acts_after, if_server}
+use Rattle.run_goes_on.proofs.Doings.{epoch_after_cause, epoch_after_step, epoch_on, epoch_step}
+use Rattle.run_goes_on.proofs.Positions.{doings_on, server_doings}
 
 -- # What each doing leaves so, a step leaves so
 module _ (Q : List Doing → Type 0) (one : (S : List Doing) (a : Doing) → Q S → Q (a ∷ S)) where
@@ -38,12 +43,14 @@ module _ (Q : List Doing → Type 0) (one : (S : List Doing) (a : Doing) → Q S
   cause_each Evict S q = q
   cause_each End S q = q
 
-  pub each_on : (s : Step) (S : List Doing) → Q S → Q (after_step s S)
-  each_on s S q =
+  pub caused_on : (s : Step) (S : List Doing) → Q (after_cause s.cause S) → Q (after_step s S)
+  caused_on s S q =
       one (after_sending s S) (Reserves s.reserved)
       (all_on (sending s.sent) (after_admitting s S)
-      (all_on (admitting s.admitted) (after_deciding s S)
-      (all_on (deciding s.applied) (after_cause s.cause S) (cause_each s.cause S q))))
+      (all_on (admitting s.admitted) (after_deciding s S) (all_on (deciding s.applied) (after_cause s.cause S) q)))
+
+  pub each_on : (s : Step) (S : List Doing) → Q S → Q (after_step s S)
+  each_on s S q = caused_on s S (cause_each s.cause S q)
 
 -- a host on the list comes on it no more, so that it did so in no later epoch than some
 abbrev pub ListedBy : List Doing → HostId → ℕ → Type 0
@@ -72,7 +79,7 @@ listed_old_step h s S q = each_on (λ (T : List Doing). ListedOld T h) (λ T a x
 
 -- # What once was so in the epoch is so still, in a step in which none begins
 module _ (P : List Doing → Doing → Type 0) where
-  in_deciding : (xs : List Applied) (S : List Doing) → InEpoch P S → InEpoch P (appended (deciding xs) S)
+  pub in_deciding : (xs : List Applied) (S : List Doing) → InEpoch P S → InEpoch P (appended (deciding xs) S)
   in_deciding [] S x = x
   in_deciding (IsWanted w ∷ xs) S x =
       in_deciding xs (MakesWant w ∷ S) (inr (x, λ k. (let z : MakesWant w ≡ BeginsEpoch k.0 = k.1 in cc)))
@@ -149,6 +156,44 @@ module _ (P : List Doing → Doing → Type 0) where
         | inr k ↦ k.0
       ]
 
+-- # Over many steps
+module _ (firsts : ServerId → ℕ) (v : ServerId) where
+  abbrev acts : List Step → List Doing
+  acts past = doings_of (firsts v) v past
+
+  pub grows_on : (l p : List Step) → epoch (acts p) ≤ epoch (acts (appended l p))
+  grows_on l p =
+      doings_on (firsts v) v (λ (S : List Doing). epoch (acts p) ≤ epoch S)
+      (λ S t q. (let grows = epoch_after_step t S in omega (arith, q, grows))) l p (omega arith)
+
+  pub listed_on : (h : HostId) (l p : List Step) → Listed (acts p) h → Listed (acts (appended l p)) h
+  listed_on h l p x =
+      doings_on (firsts v) v (λ (S : List Doing). Listed S h)
+      (λ S t q. each_on (λ (T : List Doing). Listed T h) (λ T a k. inr k) t S q) l p x
+
+  -- what was so in the epoch is so, where the epoch is still the same
+  pub in_last : (P : List Doing → Doing → Type 0) (l p : List Step)
+      → epoch (acts (appended l p)) ≤ epoch (acts p) → InEpoch P (acts p) → InEpoch P (acts (appended l p))
+  in_last P [] p le x = x
+  in_last P (u ∷ l) p le x = in_last P l (u ∷ p) (omega (arith, le, grown)) (go u.node refl)
+    where
+      grown : epoch (acts p) ≤ epoch (acts (u ∷ p))
+      grown = grows_on (u ∷ []) p
+
+      by_server : u.node ≡ Server v → InEpoch P (after_step u (acts p))
+      by_server at =
+          let ends : epoch (after_step u (acts p)) ≤ epoch (acts (appended l (u ∷ p))) =
+          subst (λ (S : List Doing). epoch S ≤ epoch (acts (appended l (u ∷ p))))
+          (server_doings (firsts v) v u p at) (grows_on l (u ∷ p)) in
+          let steps = epoch_step u (acts p) in
+          let up = epoch_after_cause u (acts p) in
+          in_caused P u (acts p) (in_cause P u.cause (acts p) (omega (arith, le, ends, steps, up)) x)
+
+      go : (k : Node) → u.node ≡ k → InEpoch P (acts_after v k u (acts p))
+      go (Host k) at = x
+      go (Server k) at =
+          if_server (InEpoch P) k v (after_step u (acts p)) (acts p) (λ e. by_server (at ∙ ap Server e)) x
+
 -- # What is taken in the epoch was taken once the cause was
 abbrev pub IsTaking : (List Doing → Doing → Type 0) → Type 0
 IsTaking P = (S : List Doing) (a : Doing) → P S a → (h : HostId) × (e n : ℕ) × (b : Body) × (a ≡ Took h e n b)
@@ -177,6 +222,44 @@ module _ (P : List Doing → Doing → Type 0) (takes : IsTaking P) where
       let k = takes (after_sending s S) (Reserves s.reserved) x in
       absurd (let z : Reserves s.reserved ≡ Took k.0 k.1 k.2 k.3 = k.4 in cc)
   taken_step s S (inr x) = taken_admitting s.admitted s S (back_sending P no_send s.sent (after_admitting s S) x.0)
+
+-- and what once was taken
+module _ (P : List Doing → Doing → Type 0) (takes : IsTaking P) where
+  once_deciding : (xs : List Applied) (S : List Doing) → Once P (appended (deciding xs) S) → Once P S
+  once_deciding [] S x = x
+  once_deciding (IsWanted w ∷ xs) S x = elim (once_deciding xs (MakesWant w ∷ S) x) [
+    | inl k ↦ absurd (no_want P takes S w k)
+    | inr k ↦ k
+  ]
+  once_deciding (IsDone w ∷ xs) S x = elim (once_deciding xs (WritesDown w ∷ S) x) [
+    | inl k ↦ absurd (no_write P takes S w k)
+    | inr k ↦ k
+  ]
+  once_deciding (Replied y ∷ xs) S x = once_deciding xs S x
+  once_deciding (Stored h f ss n ∷ xs) S x = once_deciding xs S x
+  once_deciding (IsDown h ∷ xs) S x = once_deciding xs S x
+
+  once_admitting : (cs : List Admission) (S : List Doing) → Once P (appended (admitting cs) S) → Once P S
+  once_admitting [] S x = x
+  once_admitting (c ∷ cs) S x = elim (once_admitting cs (Admits c.host c.tokens ∷ S) x) [
+    | inl k ↦ absurd (no_admit P takes S c.host c.tokens k)
+    | inr k ↦ k
+  ]
+
+  once_sending : (ms : List Message) (S : List Doing) → Once P (appended (sending ms) S) → Once P S
+  once_sending [] S x = x
+  once_sending (m ∷ ms) S x = elim (once_sending ms (Sent m.host m.epoch m.moves m.body ∷ S) x) [
+    | inl k ↦ absurd (no_send P takes S m.host m.epoch m.moves m.body k)
+    | inr k ↦ k
+  ]
+
+  pub once_step : (s : Step) (S : List Doing) → Once P (after_step s S) → Once P (after_cause s.cause S)
+  once_step s S (inl x) =
+      let k = takes (after_sending s S) (Reserves s.reserved) x in
+      absurd (let z : Reserves s.reserved ≡ Took k.0 k.1 k.2 k.3 = k.4 in cc)
+  once_step s S (inr x) =
+      once_deciding s.applied (after_cause s.cause S)
+      (once_admitting s.admitted (after_deciding s S) (once_sending s.sent (after_admitting s S) x))
 
 -- # Who has reclaimed after a step has so once its cause was taken, or the step admits a claim of it
 enlists_hearing : (S : List Doing) (a : Doing) (h : HostId) → Enlists S a h → Hears a h Hello
@@ -315,3 +398,58 @@ module _ (h : HostId) (e n : ℕ) (b : Body) where
     | inl k ↦ inl (sent_cause s.cause S
         (sent_deciding s.applied (after_cause s.cause S) (sent_admitting s.admitted (after_deciding s S) k)))
   ]
+
+-- # Who is on the list after a step was on it, or came on it in this epoch
+module _ (h : HostId) where
+  pub listed_deciding : (xs : List Applied) (S : List Doing) → Listed (appended (deciding xs) S) h → Listed S h
+  listed_deciding [] S x = x
+  listed_deciding (IsWanted w ∷ xs) S x = elim (listed_deciding xs (MakesWant w ∷ S) x) [
+    | inl k ↦ (let q = k.0 in absurd (let z : MakesWant w ≡ Took h q.0 q.1 Hello = q.2 in cc))
+    | inr k ↦ k
+  ]
+  listed_deciding (IsDone w ∷ xs) S x = elim (listed_deciding xs (WritesDown w ∷ S) x) [
+    | inl k ↦ (let q = k.0 in absurd (let z : WritesDown w ≡ Took h q.0 q.1 Hello = q.2 in cc))
+    | inr k ↦ k
+  ]
+  listed_deciding (Replied y ∷ xs) S x = listed_deciding xs S x
+  listed_deciding (Stored k f ss n ∷ xs) S x = listed_deciding xs S x
+  listed_deciding (IsDown k ∷ xs) S x = listed_deciding xs S x
+
+  pub listed_admitting : (cs : List Admission) (S : List Doing) → Listed (appended (admitting cs) S) h → Listed S h
+  listed_admitting [] S x = x
+  listed_admitting (c ∷ cs) S x = elim (listed_admitting cs (Admits c.host c.tokens ∷ S) x) [
+    | inl k ↦ (let q = k.0 in absurd (let z : Admits c.host c.tokens ≡ Took h q.0 q.1 Hello = q.2 in cc))
+    | inr k ↦ k
+  ]
+
+  listed_sending : (ms : List Message) (S : List Doing) → Listed (appended (sending ms) S) h → Listed S h
+  listed_sending [] S x = x
+  listed_sending (m ∷ ms) S x = elim (listed_sending ms (Sent m.host m.epoch m.moves m.body ∷ S) x) [
+    | inl k ↦ (let q = k.0 in absurd (let z : Sent m.host m.epoch m.moves m.body ≡ Took h q.0 q.1 Hello = q.2 in cc))
+    | inr k ↦ k
+  ]
+
+  listed_cause : (c : Cause) (S : List Doing) → Listed (after_cause c S) h
+      → Listed S h ⊎ ListedNow (after_cause c S) h
+  listed_cause (Came m) S (inl k) = inr (inl (inl k, k.1))
+  listed_cause (Came m) S (inr k) = inl k
+  listed_cause (Restart line) S (inl k) =
+      let q = k.0 in absurd (let z : BeginsEpoch (suc (epoch S)) ≡ Took h q.0 q.1 Hello = q.2 in cc)
+  listed_cause (Restart line) S (inr k) = inl k
+  listed_cause Flushed S (inl k) = let q = k.0 in absurd (let z : Flushes ≡ Took h q.0 q.1 Hello = q.2 in cc)
+  listed_cause Flushed S (inr k) = inl k
+  listed_cause (Line line) S k = inl k
+  listed_cause Lapse S k = inl k
+  listed_cause Evict S k = inl k
+  listed_cause End S k = inl k
+
+  pub listed_step : (s : Step) (S : List Doing) → Listed (after_step s S) h
+      → Listed S h ⊎ ListedNow (after_step s S) h
+  listed_step s S (inl k) =
+      let q = k.0 in absurd (let z : Reserves s.reserved ≡ Took h q.0 q.1 Hello = q.2 in cc)
+  listed_step s S (inr x) =
+      elim (listed_cause s.cause S (listed_deciding s.applied (after_cause s.cause S)
+      (listed_admitting s.admitted (after_deciding s S) (listed_sending s.sent (after_admitting s S) x)))) [
+        | inl k ↦ inl k
+        | inr now ↦ inr (in_caused (λ before a. Enlists before a h) s S now)
+      ]

@@ -66,7 +66,7 @@ restarted_raises true told now e = go (nat_lt now told) refl
     go true q = omega arith
     go false q = ltb-false now told q
 
-restarted_up : (v : ServerId) (A : List Step) (u : Step) (m : Message) → u.cause ≡ Came m → m.server ≡ v
+pub restarted_up : (v : ServerId) (A : List Step) (u : Step) (m : Message) → u.cause ≡ Came m → m.server ≡ v
     → m.body ≡ Restarted → m.epoch ≤ epoch_at (u ∷ A) v
 restarted_up v A u m cause server body =
     subst (λ (c : Cause). m.epoch ≤ epoch_raised c v (epoch_at A v)) (sym cause)
