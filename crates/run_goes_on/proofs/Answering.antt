@@ -11,7 +11,6 @@ use Rattle.script_lines.specs.declared.script.Script.{Script}
 use Rattle.message_types.specs.Soundness.{HasMoves, IsSound}
 use Rattle.message_types.specs.declared.giving.AppliedGive.{AppliedGive}
 use Rattle.message_types.specs.declared.giving.Give.{Give}
-use Rattle.message_types.specs.declared.giving.Outstanding.{Outstanding}
 use Rattle.message_types.specs.declared.giving.Reclaim.{Reclaim as ReclaimOf}
 use Rattle.message_types.specs.declared.giving.Reclaimed.{Reclaimed as ReclaimedOf}
 use Rattle.message_types.specs.declared.message.Body.{Body}
@@ -48,7 +47,8 @@ use Rattle.run_goes_on.proofs.Giving.{gives_are_known}
 use Rattle.run_goes_on.proofs.Grown.{admitted_at, cause_each, in_cause, in_caused, reclaims_cause, reclaims_step}
 use Rattle.run_goes_on.proofs.Grown.{sent_split, taken_admitting, taken_step}
 use Rattle.run_goes_on.proofs.Positions.{Cut, always_back, cut, doings_on, host_steps, own_on, server_doings}
-use Rattle.run_goes_on.proofs.Telling.{After, above_before, after, below, decide, first, here, learns_by, less, mark_before}
+use Rattle.run_goes_on.proofs.Telling.{After, above_before, after, below, decide, first}
+use Rattle.run_goes_on.proofs.Telling.{here, learns_by, less, mark_before}
 use Rattle.run_goes_on.proofs.Telling.{no_lapse, server_due, server_may, server_sends, tells_none, whole_cut}
 use Rattle.run_goes_on.specs.Rest.{AllIsOver, IsTakenIn, LapsesIn, NoneIsHeld}
 use Rattle.run_goes_on.specs.Waiting.{ClaimsAreAnswered}
@@ -115,13 +115,15 @@ module _ (script : Script) (start : Tree) (firsts : ServerId → ℕ) (host : Ho
 
   gone_at : (k : Node) (past : List Step) (s : Step) → StepMeets script start firsts k past s
       → StepDue script start firsts k past s
-      → ((e n : ℕ) (b : Body) → SentTo (doings_of (firsts v) v past) host e n b → e ≤ epoch (doings_of (firsts v) v past))
+      → ((e n : ℕ) (b : Body) → SentTo (doings_of (firsts v) v past) host e n b → e ≤ epoch (doings_of
+      (firsts v) v past))
       → IsGone (doings_of (firsts v) v past) → IsGone (acts_after v k s (doings_of (firsts v) v past))
   gone_at (Host k) past s m d below_ old = old
   gone_at (Server k) past s m d below_ old =
       if_server IsGone k v (after_step s (doings_of (firsts v) v past)) (doings_of (firsts v) v past)
       (λ e. gone_step (steps_of_server v past) (doings_of (firsts v) v past) s
-      (subst (λ (w : ServerId). ServerMay script start w (steps_of_server w past) (doings_of (firsts w) w past) s) e m.0)
+      (subst (λ (w : ServerId). ServerMay script start w (steps_of_server w past) (doings_of
+      (firsts w) w past) s) e m.0)
       (subst (λ (w : ServerId). ServerDue script start w (steps_of_server w past) (doings_of (firsts w) w past) s) e d)
       below_ old) old
 
@@ -252,7 +254,8 @@ module _ (script : Script) (start : Tree) (firsts : ServerId → ℕ) (real : (v
         → t.node ≡ Host host → epoch_at (own p) v < epoch_at (t ∷ own p) v → ⊥
     raise_none l p t short w mark at up =
         again p l t short w at
-        ((host_due l p t w at).repeats.restarted_claims v (learns_by (own p) t v (greeted (t ∷ l) p w mark) mark.above up))
+        ((host_due l p t w at).repeats.restarted_claims v (learns_by (own p) t v (greeted
+        (t ∷ l) p w mark) mark.above up))
 
     abbrev e0 : ℕ
     e0 = epoch_at (own (s ∷ past)) v
@@ -386,7 +389,8 @@ module _ (script : Script) (start : Tree) (firsts : ServerId → ℕ) (real : (v
         admits_not : (c : Admission) → In c u.admitted → c.host ≡ host → ⊥
         admits_not c i is =
             let k = admitted_at v u.admitted (after_deciding u S) (may_at l p u a.whole at).tokens.admits c i in
-            let may = subst (λ (h : HostId). MayAdmit v (appended (admitting k.0) (after_deciding u S)) h c.tokens) is k.1 in
+            let may = subst (λ (h : HostId). MayAdmit v (appended (admitting k.0)
+            (after_deciding u S)) h c.tokens) is k.1 in
             let d = u_due.answers.claim_now host may.moves may.claim
             (taken_admitting (λ before x. TakesFrom before x host may.moves (Reclaim may.claim))
             (took_takes host may.moves (Reclaim may.claim)) k.0 u S may.took) fresh live_now
@@ -395,7 +399,8 @@ module _ (script : Script) (start : Tree) (firsts : ServerId → ℕ) (real : (v
               subst (λ (fs : FilesetId). TookOf v caused host fs (GiveBack g.0)) g.2
                   (taken_admitting (λ before x. TakesOf v before x host g.0.fid.fileset (GiveBack g.0))
                   (of_takes v host g.0) k.0 u S
-                  (subst (λ (fs : FilesetId). TookOf v (appended (admitting k.0) (after_deciding u S)) host fs (GiveBack g.0))
+                  (subst (λ (fs : FilesetId). TookOf v (appended (admitting k.0) (after_deciding u S)) host fs
+                  (GiveBack g.0))
                   (sym g.2) g.1)),
               g.2,
               g.3,
@@ -576,7 +581,8 @@ module _ (script : Script) (start : Tree) (firsts : ServerId → ℕ) (real : (v
     gives_taken ends o i up at = go (find_after g later (s ∷ past) start_at
         (subst (λ (L : List Step). IsKnown (own L) g) (sym e) (known g made)))
       where
-        out : (g : Give) × IsOutstanding (s ∷ own past) g × (number_of g ≡ record { fileset = o.fileset; number = o.give })
+        out : (g : Give) × IsOutstanding (s ∷ own past) g ×
+            (number_of g ≡ record { fileset = o.fileset; number = o.give })
         out = (may_host.tokens.claims v claims.0 claims.1 claim claims.3).gives o i up
 
         g : Give
@@ -611,7 +617,8 @@ module _ (script : Script) (start : Tree) (firsts : ServerId → ℕ) (real : (v
                 ap (λ (y : AppliedGive). y.number) k.2 ∙ ap (λ (y : AppliedGive). y.number) out.2,
               )
               )
-          | inr (u, answer, (w, cause, server, epoch_is, moves, body), among) ↦ absurd (answered f u answer w cause server epoch_is moves body among)
+          | inr (u, answer, (w, cause, server, epoch_is, moves, body), among) ↦ absurd
+              (answered f u answer w cause server epoch_is moves body among)
         ]
           where
             applied_at : (u : ServerId) (T : List Doing) → IsApplied u T host (number_of g)
@@ -643,7 +650,8 @@ module _ (script : Script) (start : Tree) (firsts : ServerId → ℕ) (real : (v
 
                 sent : SentTo (doings_of (firsts u) u f.before) host w.epoch w.moves (Reclaimed answer)
                 sent =
-                    subst (λ (y : ServerId × Body). SentTo (doings_of (firsts y.0) y.0 f.before) host w.epoch w.moves y.1)
+                    subst (λ (y : ServerId × Body). SentTo (doings_of
+                    (firsts y.0) y.0 f.before) host w.epoch w.moves y.1)
                     (λ i. (server i, body i)) (came w cause).2
 
                 is_v : u ≡ v

@@ -1,5 +1,5 @@
 -- A host that waits for the answer to a claim is on the list, and came on it in no later epoch than its own.
-use Rattle.std.proofs.Common.{List, [], ap, arith, inl, inr, subst, sym, ℕ, ◌<◌, ◌∙◌, ◌∷◌, ◌≡◌, ◌≤◌, ◌⊎◌}
+use Rattle.std.proofs.Common.{List, [], ap, arith, inl, inr, subst, sym, ℕ, ◌<◌, ◌∙◌, ◌∷◌, ◌≡◌, ◌≤◌}
 use Rattle.base_types.specs.declared.ids.HostId.{HostId}
 use Rattle.base_types.specs.declared.ids.Node.{Node}
 use Rattle.base_types.specs.declared.ids.Node.TheVariants.{Host, Server}
@@ -74,7 +74,8 @@ module _ (script : Script) (start : Tree) (firsts : ServerId → ℕ) (host : Ho
   told_at (Server k) past s m d old =
       if_server IsToldBy k v (after_step s (doings_of (firsts v) v past)) (doings_of (firsts v) v past)
       (λ e. told_step (steps_of_server v past) (doings_of (firsts v) v past) s
-      (subst (λ (w : ServerId). ServerMay script start w (steps_of_server w past) (doings_of (firsts w) w past) s) e m.0)
+      (subst (λ (w : ServerId). ServerMay script start w (steps_of_server w past) (doings_of
+      (firsts w) w past) s) e m.0)
       (subst (λ (w : ServerId). ServerDue script start w (steps_of_server w past) (doings_of (firsts w) w past) s) e d)
       old) old
 

@@ -282,7 +282,8 @@ listed_said (a ∷ S) h (inl l) = let k = l.0 in (k.0, k.1, inl k.2)
 listed_said (a ∷ S) h (inr l) = let k = listed_said S h l in (k.0, k.1, inr k.2)
 
 module _ (h : HostId) (e n : ℕ) (b : Body) where
-  pub took_deciding : (xs : List Applied) (S : List Doing) → TookIt (appended (deciding xs) S) h e n b → TookIt S h e n b
+  pub took_deciding : (xs : List Applied) (S : List Doing) → TookIt (appended (deciding xs) S) h e n b
+      → TookIt S h e n b
   took_deciding [] S o = o
   took_deciding (IsWanted w ∷ xs) S o = elim (took_deciding xs (MakesWant w ∷ S) o) [
     | inl q ↦ absurd (let z : MakesWant w ≡ Took h e n b = q in cc)

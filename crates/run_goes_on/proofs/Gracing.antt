@@ -11,14 +11,13 @@ use Rattle.script_lines.specs.declared.script.Script.{Script}
 use Rattle.message_types.specs.declared.giving.Reclaimed.{Reclaimed as ReclaimedOf}
 use Rattle.message_types.specs.declared.message.Body.{Body}
 use Rattle.message_types.specs.declared.message.Body.TheVariants.{Hello, Reclaimed, Restarted}
-use Rattle.message_types.specs.declared.message.Message.{Message}
 use Rattle.run_examples.proofs.ServerWords.{reclaimed, reclaimed_is, reclaimed_yes}
 use Rattle.run_rules.specs.Doings.{Doing, Enlists, GoesAway, HasGoneAway, HasReclaimed, IsLive, Listed, ListedNow}
 use Rattle.run_rules.specs.Doings.{SentNow, SentTo, after_cause, after_step, doings_of, epoch}
 use Rattle.run_rules.specs.Doings.Doing.{Admits, BeginsEpoch, Took}
 use Rattle.run_rules.specs.HostMay.{AwaitsReclaimed}
 use Rattle.run_rules.specs.Messages.{ComesIn, HasGreeted, HasStopped, epoch_at}
-use Rattle.run_rules.specs.Past.{Always, In, Once, appended}
+use Rattle.run_rules.specs.Past.{Always, Once, appended}
 use Rattle.run_rules.specs.Plans.{resender_by}
 use Rattle.run_rules.specs.Runs.{CameToHost, IsFrom, StepDue, StepMeets, StepsMeet, firsts_of, past_of}
 use Rattle.run_rules.specs.ServerDue.{ServerDue}
@@ -30,7 +29,7 @@ use Rattle.run_tokens.proofs.Law.{Whole}
 use Rattle.run_tokens.proofs.Words.{acts_after, epoch_grows, if_server}
 use Rattle.run_goes_on.proofs.Answering.{claims_are_answered}
 use Rattle.run_goes_on.proofs.Arriving.{Found, due_of, found, from_one, meets_at, step_on, whole_at}
-use Rattle.run_goes_on.proofs.Doings.{above_first, epoch_after_cause, epoch_step, sent_so}
+use Rattle.run_goes_on.proofs.Doings.{above_first, epoch_step, sent_so}
 use Rattle.run_goes_on.proofs.Grown.{grows_on, in_cause, in_caused, in_last, listed_on, listed_step}
 use Rattle.run_goes_on.proofs.Hailing.{HasComeIn, listed_reclaims, says_reclaimed, zero_at_end}
 use Rattle.run_goes_on.proofs.Positions.{Cut, cut, doings_on, host_steps, own_on, server_doings}
@@ -154,7 +153,8 @@ module _ (script : Script) (start : Tree) (firsts : ServerId → ℕ) (real : (v
       → ((k : Tells (epoch (acts run))) → length k.rest < length t.rest → epoch (acts run) ≤ epoch_at (own run) v)
       → epoch (acts run) ≤ epoch_at (own run) v
   hears_round t next =
-      elim (server_sends script start firsts real run meets due over none host live v t.rest t.before t.step t.whole t.at
+      elim (server_sends script start firsts real run meets due over none host live v t.rest t.before t.step t.whole
+      t.at
       t.sent.0 t.sent.1 t.sent.2 (Server t.sent.0.server) (ap (λ (b : Body). resender_by b t.sent.0) t.sent.3)
       (λ st. st)) [
         | inl lapses ↦ lapsing (cut t.rest (t.step ∷ t.before) lapses.0 lapses.1) lapses.2 lapses.3
@@ -263,7 +263,8 @@ module _ (script : Script) (start : Tree) (firsts : ServerId → ℕ) (real : (v
       sent =
           let server : comes.0.server ≡ v = comes.2 in
           let body : comes.0.body ≡ Reclaimed answer = comes.5 in
-          subst (λ (y : ServerId × Body). SentTo (doings_of (firsts y.0) y.0 f.before) host comes.0.epoch comes.0.moves y.1)
+          subst (λ (y : ServerId × Body). SentTo (doings_of
+          (firsts y.0) y.0 f.before) host comes.0.epoch comes.0.moves y.1)
           (λ i. (server i, body i)) (came comes.0 comes.1).2
 
       late : epoch (acts run) ≤ epoch (acts f.before)
@@ -307,8 +308,10 @@ no_grace_period_stands script journal q v host lives =
     is_reclaimed (doings_of (firsts_of journal v) v (past_of journal)) host (λ fresh.
     reclaims_else script q.run.start (firsts_of journal) (λ u. from_one _) (past_of journal) q.run.steps
     (due_of script journal q.run q.dutiful) q.over q.none_held host
-    (λ stopped. stopped_away script q.run.start (firsts_of journal) (past_of journal) q.run.steps q.over q.none_held host
+    (λ stopped. stopped_away script q.run.start (firsts_of journal)
+    (past_of journal) q.run.steps q.over q.none_held host
     v (λ P o. found host P journal.steps o) stopped lives) v lives fresh
     (claims_are_answered script journal q host
-    (λ stopped. stopped_away script q.run.start (firsts_of journal) (past_of journal) q.run.steps q.over q.none_held host
+    (λ stopped. stopped_away script q.run.start (firsts_of journal)
+    (past_of journal) q.run.steps q.over q.none_held host
     v (λ P o. found host P journal.steps o) stopped lives) v lives.1) (λ P o. found host P journal.steps o))

@@ -1,5 +1,5 @@
 -- A granted token that was issued in its epoch before was granted all the time since, and is pinned where it was.
-use Rattle.std.proofs.Common.{List, [], arith, inl, inr, refl, subst, suc, sym, ℕ, ◌<◌, ◌∷◌, ◌≡◌, ◌⊎◌}
+use Rattle.std.proofs.Common.{List, [], arith, inl, inr, subst, suc, sym, ℕ, ◌∷◌, ◌≡◌, ◌⊎◌}
 use Rattle.base_types.specs.declared.ids.HostId.{HostId}
 use Rattle.base_types.specs.declared.ids.ServerId.{ServerId}
 use Rattle.token_types.specs.declared.token.Token.{Token}
@@ -13,8 +13,8 @@ use Rattle.run_rules.specs.Doings.{Doing, Enlists, Granted, HasReclaimed, IsNewl
 use Rattle.run_rules.specs.Doings.{StayStamp, admitting, after_admitting, after_cause, after_deciding, after_sending}
 use Rattle.run_rules.specs.Doings.{after_step, deciding, epoch, sending}
 use Rattle.run_rules.specs.Doings.Doing.{Admits, BeginsEpoch, Flushes, MakesWant, Reserves, Sent, Took, WritesDown}
-use Rattle.run_rules.specs.Past.{EachInTurn, In, Once, appended}
-use Rattle.run_rules.specs.ServerTokens.{MayBring, ServerStep, ServerTokens}
+use Rattle.run_rules.specs.Past.{EachInTurn, In, appended}
+use Rattle.run_rules.specs.ServerTokens.{ServerStep, ServerTokens}
 use Rattle.run_rules.specs.declared.applied.Admission.{Admission}
 use Rattle.run_rules.specs.declared.applied.Applied.{Applied}
 use Rattle.run_rules.specs.declared.applied.Applied.TheVariants.{Done as IsDone, IsDown, Replied, Stored}
@@ -58,7 +58,8 @@ module _ (v : ServerId) (t : Token) (x : StayStamp) where
   -- a doing that sends nothing and admits nothing brings none
   abbrev pub IsPlain : Doing → Type 0
   IsPlain a =
-      ((h : HostId) (e n : ℕ) (b : Body) → a ≡ Sent h e n b → ⊥) × ((h : HostId) (ts : List Token) → a ≡ Admits h ts → ⊥)
+      ((h : HostId) (e n : ℕ) (b : Body) → a ≡ Sent h e n b → ⊥) × ((h : HostId) (ts : List Token) → a ≡ Admits h ts
+      → ⊥)
 
   pub plain : (a : Doing) → IsPlain a → IsNewlyGranted a t → ⊥
   plain a apart (inr (tokens, q, among)) = apart.1 t.host tokens q

@@ -1,5 +1,5 @@
 -- What is so of a server's doings for good, and how words on them grow and go back over a step.
-use Rattle.std.proofs.Common.{List, [], ap, arith, inl, inr, refl, subst, suc, sym, ℕ, ◌<◌, ◌≤◌, ◌∙◌, ◌∷◌, ◌≡◌, ◌⊎◌}
+use Rattle.std.proofs.Common.{List, [], ap, arith, inl, inr, refl, subst, suc, sym, ℕ, ◌≤◌, ◌∙◌, ◌∷◌, ◌≡◌, ◌⊎◌}
 use Rattle.base_types.specs.declared.ids.HostId.{HostId}
 use Rattle.base_types.specs.declared.ids.Node.{Node}
 use Rattle.base_types.specs.declared.ids.Node.TheVariants.{Host, Server}
@@ -8,7 +8,7 @@ use Rattle.token_types.specs.declared.token.Token.{Token}
 use Rattle.message_types.specs.declared.message.Body.{Body}
 use Rattle.message_types.specs.declared.message.Body.TheVariants.{Hello}
 use Rattle.message_types.specs.declared.message.Message.{Message}
-use Rattle.run_rules.specs.Doings.{Doing, Enlists, HasReclaimed, Hears, InEpoch, IsNewEpoch, Listed, ListedNow, SentTo}
+use Rattle.run_rules.specs.Doings.{Doing, Enlists, HasReclaimed, Hears, InEpoch, Listed, ListedNow, SentTo}
 use Rattle.run_rules.specs.Doings.{admitting, after_admitting}
 use Rattle.run_rules.specs.Doings.{after_cause, after_deciding, after_sending, after_step, deciding, doings_of, epoch}
 use Rattle.run_rules.specs.Doings.{sending}

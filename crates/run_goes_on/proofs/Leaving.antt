@@ -1,6 +1,6 @@
 -- A Bye of a host is answered, once all that was sent is over, where the host said it once it was welcome.
 use Rattle.std.proofs.Common.{List, [], ap, arith, inl, inr, length, refl, subst, suc, sym, zero, ℕ}
-use Rattle.std.proofs.Common.{◌<◌, ◌∙◌, ◌∷◌, ◌≡◌, ◌≢◌, ◌≤◌, ◌⊎◌}
+use Rattle.std.proofs.Common.{◌<◌, ◌∙◌, ◌∷◌, ◌≡◌, ◌≤◌, ◌⊎◌}
 use Rattle.base_types.specs.declared.ids.HostId.{HostId}
 use Rattle.base_types.specs.declared.ids.Node.{Node}
 use Rattle.base_types.specs.declared.ids.Node.TheVariants.{Host, Server}
@@ -9,7 +9,7 @@ use Rattle.tree_answers.specs.declared.tree.Tree.{Tree}
 use Rattle.script_lines.specs.declared.script.Script.{Script}
 use Rattle.message_types.specs.declared.giving.Reclaimed.{Reclaimed as ReclaimedOf}
 use Rattle.message_types.specs.declared.message.Body.{Body}
-use Rattle.message_types.specs.declared.message.Body.TheVariants.{Bye, Down, Hello, Reclaimed, Restarted}
+use Rattle.message_types.specs.declared.message.Body.TheVariants.{Bye, Down, Hello, Reclaimed}
 use Rattle.message_types.specs.declared.message.Direction.TheVariants.{ToHost, ToServer}
 use Rattle.message_types.specs.declared.message.Message.{Message}
 use Rattle.run_rules.specs.Doings.{Doing, GoesAway, HasGoneAway, HasGoneDown, Hears, IsLive, SentNow, TakenNow}
@@ -18,7 +18,7 @@ use Rattle.run_rules.specs.Doings.Doing.{BeginsEpoch, Flushes, Took}
 use Rattle.run_rules.specs.HostDue.{HostDue}
 use Rattle.run_rules.specs.HostMay.{AwaitsReclaimed, HostMay}
 use Rattle.run_rules.specs.Messages.{Comes, HasBye, HasGreeted, HasSaid, HasStopped, IsWelcome, Says, Sends, epoch_at}
-use Rattle.run_rules.specs.Past.{Always, In, Once, appended}
+use Rattle.run_rules.specs.Past.{Always, appended}
 use Rattle.run_rules.specs.Plans.{resender_by}
 use Rattle.run_rules.specs.Runs.{IsFrom, StepDue, StepMeets, StepsMeet, firsts_of, past_of}
 use Rattle.run_rules.specs.ServerDue.{ServerDue}
@@ -27,7 +27,7 @@ use Rattle.run_rules.specs.declared.step.Cause.{Cause}
 use Rattle.run_rules.specs.declared.step.Cause.TheVariants.{End, Evict, Flushed, Lapse, Line, Message as Came, Restart}
 use Rattle.run_rules.specs.declared.step.Step.{Step}
 use Rattle.run_tokens.proofs.Law.{Whole}
-use Rattle.run_tokens.proofs.Words.{acts_after, epoch_grows, if_host, if_server, own_after}
+use Rattle.run_tokens.proofs.Words.{acts_after, if_host, if_server, own_after}
 use Rattle.run_goes_on.proofs.Answering.{claims_are_answered}
 use Rattle.run_goes_on.proofs.Arriving.{due_at, due_of, found, from_cause, from_one, host_sends, meets_at, step_on}
 use Rattle.run_goes_on.proofs.Arriving.{whole_at}
@@ -189,7 +189,8 @@ module _ (script : Script) (start : Tree) (firsts : ServerId → ℕ) (real : (v
     -- nor does the server say Bye
     byes_not : (l p : List Step) (t : Step) → IsAfter (t ∷ l) p → t.node ≡ Server v → SentNow t host Bye → ⊥
     byes_not l p t a at (w, i, is, body) =
-        elim (server_sends script start firsts real run meets due over none host live v l p t a.whole at w i is (Host host)
+        elim (server_sends script start firsts real run meets due over none host live v l p t a.whole at w i is
+        (Host host)
         (ap (λ (b : Body). resender_by b w) body ∙ ap Host is) live) [
           | inl lapses ↦ lapses_not l (t ∷ p) (next_at l p t a) lapses
           | inr taken ↦ ends (cut l (t ∷ p) taken.0 taken.1) taken.2 taken.3
@@ -380,7 +381,8 @@ module _ (script : Script) (start : Tree) (firsts : ServerId → ℕ) (real : (v
               after start_at c,
               at,
               t_due.answers.late host m cause went.0 lives differs
-                  (λ q. (let z : Bye ≡ Hello = sym sends.5 ∙ q in cc)) (λ q. (let z : Bye ≡ Down = sym sends.5 ∙ q in cc)),
+                  (λ q. (let z : Bye ≡ Hello = sym sends.5 ∙ q in cc)) (λ q. (let z : Bye ≡ Down = sym sends.5
+                  ∙ q in cc)),
               up_to,
             )
 

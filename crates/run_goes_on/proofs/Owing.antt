@@ -2,7 +2,6 @@
 use Rattle.std.proofs.Common.{List, [], ap, arith, inl, inr, length, refl, subst, suc, sym, zero, ℕ}
 use Rattle.std.proofs.Common.{◌<◌, ◌∙◌, ◌∷◌, ◌≡◌, ◌≤◌, ◌⊎◌}
 use Rattle.base_types.specs.declared.ids.Fid.{Fid}
-use Rattle.base_types.specs.declared.ids.FilesetId.{FilesetId}
 use Rattle.base_types.specs.declared.ids.HostId.{HostId}
 use Rattle.base_types.specs.declared.ids.Node.{Node}
 use Rattle.base_types.specs.declared.ids.Node.TheVariants.{Host, Server}
@@ -10,12 +9,10 @@ use Rattle.base_types.specs.declared.ids.ServerId.{ServerId}
 use Rattle.tree_answers.specs.declared.tree.Tree.{Tree}
 use Rattle.tree_calls.specs.declared.call.Call.{Call}
 use Rattle.tree_calls.specs.declared.call.Call.TheVariants.{Lock, OpenFile}
-use Rattle.token_types.specs.declared.token.Kind.{Kind}
 use Rattle.token_types.specs.declared.token.Token.{Token}
 use Rattle.token_types.specs.declared.token.TokenId.{TokenId}
 use Rattle.script_lines.specs.declared.script.Script.{Script}
 use Rattle.message_types.specs.declared.giving.Give.{Give}
-use Rattle.message_types.specs.declared.giving.Reclaim.{Reclaim as ReclaimOf}
 use Rattle.message_types.specs.declared.message.Body.{Body}
 use Rattle.message_types.specs.declared.message.Body.TheVariants.{Kept, Reclaim, Returned, Revoke}
 use Rattle.message_types.specs.declared.message.Direction.{Direction}
@@ -24,36 +21,36 @@ use Rattle.message_types.specs.declared.message.Message.{Message}
 use Rattle.message_types.specs.declared.tokens.Named.{Named}
 use Rattle.message_types.specs.declared.tokens.Revoke.{Revoke as RevokeOf}
 use Rattle.run_rules.specs.Doings.{Doing, Enlists, Granted, HasReclaimed, InEpoch, IsLive, Issued, Issues, Pinned}
-use Rattle.run_rules.specs.Doings.{SentNow, StayStamp, TakesOf, admitting, after_admitting, after_cause, after_deciding}
-use Rattle.run_rules.specs.Doings.{after_sending, after_step, deciding, doings_of, epoch, sending}
+use Rattle.run_rules.specs.Doings.{SentNow, StayStamp, after_admitting, after_cause, after_deciding}
+use Rattle.run_rules.specs.Doings.{after_step, doings_of, epoch, sending}
 use Rattle.run_rules.specs.Doings.Doing.{Admits, BeginsEpoch, Flushes, MakesWant, Reserves, Sent, Took, WritesDown}
 use Rattle.run_rules.specs.HostDue.{AnswersOf, HasDirty, HostDue, RevokeDue}
 use Rattle.run_rules.specs.HostMay.{HostMay, IsExact}
 use Rattle.run_rules.specs.Messages.{HasStopped, KeepsToken, Sends, Stay, epoch_at, first_stay, home}
-use Rattle.run_rules.specs.Past.{Always, In, Once, Still, appended}
+use Rattle.run_rules.specs.Past.{Always, In, appended}
 use Rattle.run_rules.specs.Plans.{receiver_by, resender_by, resender}
-use Rattle.run_rules.specs.Runs.{CameToHost, IsFrom, StepDue, StepMeets, StepsMeet, firsts_of, past_of}
+use Rattle.run_rules.specs.Runs.{IsFrom, StepDue, StepMeets, StepsMeet, firsts_of, past_of}
 use Rattle.run_rules.specs.ServerDue.{ServerDue}
 use Rattle.run_rules.specs.ServerMay.{HasRevoked, IsOwed, ServerMay}
 use Rattle.run_rules.specs.ServerTokens.{ServerTokens}
 use Rattle.run_rules.specs.Steps.{steps_of_host, steps_of_server}
-use Rattle.run_rules.specs.Tokens.{AtHand, EverHeld, Held, HoldsId, IsKnown, IsUseKind, LabelInUse, Made, Owns, TokenInUse}
+use Rattle.run_rules.specs.Tokens.{EverHeld, Held, HoldsId, IsKnown, IsUseKind, LabelInUse, Made, Owns, TokenInUse}
 use Rattle.run_rules.specs.Tokens.{number_of}
 use Rattle.run_rules.specs.declared.step.Cause.{Cause}
 use Rattle.run_rules.specs.declared.step.Cause.TheVariants.{End, Evict, Flushed, Lapse, Line, Message as Came, Restart}
 use Rattle.run_rules.specs.declared.step.Labelled.{Labelled}
 use Rattle.run_rules.specs.declared.step.Step.{Step}
 use Rattle.run_tokens.proofs.Law.{Whole}
-use Rattle.run_tokens.proofs.Words.{acts_after, epoch_grows, if_host, if_server, own_after}
+use Rattle.run_tokens.proofs.Words.{acts_after, if_host, if_server, own_after}
 use Rattle.run_goes_on.proofs.Arriving.{cause_on, due_at, due_of, found, from_one, meets_at, step_on, whole_at}
 use Rattle.run_goes_on.proofs.Doings.{Knows, epoch_after_cause, epoch_step, knows, reclaimed_by, sent_so}
 use Rattle.run_goes_on.proofs.Giving.{gives_are_known}
 use Rattle.run_goes_on.proofs.Granting.{Keeps, keep_cause, keep_caused, plain, revoked_granted}
 use Rattle.run_goes_on.proofs.Grown.{back_admitting, back_deciding, grows_on, in_cause, in_last, in_sending}
-use Rattle.run_goes_on.proofs.Positions.{Cut, cut, doings_on, host_steps, own_on, own_run, server_doings}
+use Rattle.run_goes_on.proofs.Positions.{doings_on, host_steps, own_on, own_run, server_doings}
 use Rattle.run_goes_on.proofs.Posted.{comes_of}
 use Rattle.run_goes_on.proofs.Stopping.{stopped_away}
-use Rattle.run_goes_on.specs.Rest.{AllIsOver, IsStopped, IsTakenIn, LapsesIn, NoneIsHeld}
+use Rattle.run_goes_on.specs.Rest.{AllIsOver, IsStopped, LapsesIn, NoneIsHeld}
 use Rattle.run_goes_on.specs.Waiting.{NothingIsOwed}
 
 abbrev Reclaims : HostId → List Doing → Doing → Type 0
@@ -88,7 +85,8 @@ module _ (t : Token) where
         (λ T w a. (let z : MakesWant w ≡ Sent t.host a.0 a.1 (Revoke a.2) = a.3 in cc))
         (λ T w a. (let z : WritesDown w ≡ Sent t.host a.0 a.1 (Revoke a.2) = a.3 in cc)) s.applied
         (after_cause s.cause S)
-        (back_admitting Asks (λ T h ts a. (let z : Admits h ts ≡ Sent t.host a.0 a.1 (Revoke a.2) = a.3 in cc)) s.admitted
+        (back_admitting Asks (λ T h ts a. (let z : Admits h ts ≡ Sent t.host a.0 a.1
+        (Revoke a.2) = a.3 in cc)) s.admitted
         (after_deciding s S) k))
   ]
 
@@ -209,9 +207,9 @@ module _ (script : Script) (start : Tree) (firsts : ServerId → ℕ) (real : (v
       let b = may.answers.begins u i in (
         elim b.4 [ inl now ↦ inl now | inr held ↦ inr (owns u.token held) ],
         λ leaves. (
-          let d = may.tokens.drops u.token b.4 leaves in
-          elim (subst (In d.0) (may.answers.keeps b.0 b.1).0 d.1) [ ]
-          ),
+            let d = may.tokens.drops u.token b.4 leaves in
+            elim (subst (In d.0) (may.answers.keeps b.0 b.1).0 d.1) [ ]
+            ),
       )
   owned_step A s may owns u old (inr x) = (
     inr (old x.0),
@@ -261,7 +259,8 @@ module _ (script : Script) (start : Tree) (firsts : ServerId → ℕ) (real : (v
   steady l p u h at =
       let le = h.late in
       let up : epoch (after_step u (acts p)) ≤ epoch (acts run) =
-      subst (λ (S : List Doing). epoch S ≤ epoch (acts run)) (server_doings (firsts v) v u p at) (upto l (u ∷ p) h.whole) in
+      subst (λ (S : List Doing). epoch S ≤ epoch (acts run)) (server_doings (firsts v) v u p at) (upto l
+      (u ∷ p) h.whole) in
       let same = epoch_step u (acts p) in
       let grows = epoch_after_cause u (acts p) in
       omega (arith, le, up, same, grows)
@@ -395,7 +394,8 @@ module _ (script : Script) (start : Tree) (firsts : ServerId → ℕ) (real : (v
 
         then_granted : Granted v (acts (k.step ∷ k.before)) named.0
         then_granted =
-            subst (λ (S : List Doing). Granted v S named.0) (sym (server_doings (firsts v) v k.step k.before k.at)) named.3
+            subst (λ (S : List Doing). Granted v S named.0) (sym (server_doings
+            (firsts v) v k.step k.before k.at)) named.3
 
         issue_of : (x : StayStamp) × Issued (acts (k.step ∷ k.before)) named.0 x
         issue_of =
@@ -591,8 +591,25 @@ module _ (script : Script) (start : Tree) (firsts : ServerId → ℕ) (real : (v
               subst (λ (y : Token). IsUseKind y.kind) (ever_t uses.1.0.token u.0 uses.1.2) u.1
 
           takes : Takes keeps.4.0
-          takes m q y b at cause h at_e = unpinned (keeping.1 ((inl (keeps.3, (keeps.4.0.moves, here, (path, lives (y ∷ q) m
-              b.has)), keeps.5, kind, (keeps_run (y ∷ q) m b.has).0)), keeping.0))
+          takes m q y b at cause h at_e = unpinned (keeping.1 (
+            (inl (
+              keeps.3,
+              (
+                keeps.4.0.moves,
+                here,
+                (
+                  path,
+                  lives
+                      (y ∷ q) m
+                      b.has,
+                ),
+              ),
+              keeps.5,
+              kind,
+              (keeps_run (y ∷ q) m b.has).0,
+            )),
+            keeping.0,
+          ))
             where
               keeping : Keeps v t b.has.mark (after_cause (Came keeps.4.0) (acts m)) (acts run)
               keeping = keeps_came q m y b at keeps.4.0 cause
@@ -638,15 +655,23 @@ module _ (script : Script) (start : Tree) (firsts : ServerId → ℕ) (real : (v
 
         d : RevokeDue (own p) x k.revoke t.id
         d =
-            dues.revokes k.revoke t.id
-            (k.sent.0, cause, from ∙ sym file_v, now ∙ ap (λ (u : ServerId). epoch_at (own p) u) (sym file_v),
-            sym (ap (λ (y : Stay). y.moves) file_here), k.sent.3) k.names
+            dues.revokes k.revoke t.id (
+              k.sent.0,
+              cause,
+              from ∙ sym file_v,
+              now ∙ ap (λ (u : ServerId). epoch_at (own p) u) (sym file_v),
+              sym (ap (λ (y : Stay). y.moves) file_here),
+              k.sent.3,
+            ) k.names
 
         in_use_not : TokenInUse (own p) t.id → ⊥
         in_use_not tu =
-            kept_not (d.keeps
-            (tu.0.token, ((all (x ∷ l) p a.has.whole).alone host).holds (live_at (x ∷ l) p a.has.whole) tu.0.token
-            (use_owned (x ∷ l) p a.has.whole tu.0 tu.1), tu.2) tu)
+            kept_not (d.keeps (
+              tu.0.token,
+              ((all (x ∷ l) p a.has.whole).alone host).holds (live_at (x ∷ l) p a.has.whole) tu.0.token
+                  (use_owned (x ∷ l) p a.has.whole tu.0 tu.1),
+              tu.2,
+            ) tu)
 
         dirty_not : (u : Token) → Held (own p) u → u.id ≡ t.id → HasDirty (own p) x u → ⊥
         dirty_not u held ids dirty =
@@ -673,8 +698,10 @@ module _ (script : Script) (start : Tree) (firsts : ServerId → ℕ) (real : (v
     first_at = record {
       has = has_first;
       revoked = subst (λ (S : List Doing). HasRevoked S t) (sym (server_doings (firsts v) v k.step k.before k.at))
-          (inr (asks_now k.step.sent (after_admitting k.step (acts k.before)) k.sent.0 k.sent.1 k.sent.2 k.sent.3,
-          λ n. (let z : Reserves k.step.reserved ≡ BeginsEpoch n.0 = n.1 in cc)));
+          (inr (
+            asks_now k.step.sent (after_admitting k.step (acts k.before)) k.sent.0 k.sent.1 k.sent.2 k.sent.3,
+            λ n. (let z : Reserves k.step.reserved ≡ BeginsEpoch n.0 = n.1 in cc),
+          ));
       short = omega arith;
     }
       where
@@ -695,7 +722,8 @@ module _ (script : Script) (start : Tree) (firsts : ServerId → ℕ) (real : (v
         (ap (λ (d : Direction). receiver_by d k.sent.0) from.1 ∙ ap Host k.sent.2) st))
         (λ st. subst (IsStopped run) again_by st)) [
           | inl lapses ↦
-              lapses_not k.rest (k.step ∷ k.before) first_at (subst (LapsesIn k.rest) (again_by ∙ ap Server from.0) lapses)
+              lapses_not k.rest (k.step ∷ k.before) first_at (subst (LapsesIn k.rest) (again_by
+              ∙ ap Server from.0) lapses)
           | inr taken ↦ (
               let f = reach k.rest (k.step ∷ k.before) first_at taken.0 taken.1 in
               by taken.0 f.0 f.1 f.2 taken.2 taken.0.node refl (met f.1 (taken.0 ∷ f.0) f.2.has.whole).1.0

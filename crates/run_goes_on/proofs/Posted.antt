@@ -44,7 +44,8 @@ if_true : {X : Type 0} (b : Bool) (x y : X) → b ≡ true → (if b then x else
 if_true true x y e = refl
 if_true false x y e = absurd (cc)
 
-down_fate : (script : Script) (ms earlier : List Message) (left : Left) (p : Posting) → In p (post script earlier left ms)
+down_fate : (script : Script) (ms earlier : List Message) (left : Left) (p : Posting) → In p
+    (post script earlier left ms)
     → says_down p.message ≡ true → p.fate ≡ GoesOnce Free
 down_fate script [] earlier left p i e = elim i [ ]
 down_fate script (m ∷ ms) earlier left p (inl q) e =

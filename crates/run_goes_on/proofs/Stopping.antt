@@ -1,5 +1,5 @@
 -- A host that has stopped is live at no server, once all that was sent is over: each server has heard it.
-use Rattle.std.proofs.Common.{List, Some, [], ap, inl, inr, refl, subst, sym, true, ℕ, ◌==◌, ◌∙◌, ◌∷◌, ◌≡◌, ◌⊎◌}
+use Rattle.std.proofs.Common.{List, Some, [], ap, inl, inr, refl, subst, sym, ℕ, ◌==◌, ◌∙◌, ◌∷◌, ◌≡◌}
 use Rattle.base_types.specs.declared.ids.HostId.{HostId}
 use Rattle.base_types.specs.declared.ids.Node.{Node}
 use Rattle.base_types.specs.declared.ids.Node.TheVariants.{Host, Server}

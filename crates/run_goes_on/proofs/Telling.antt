@@ -15,7 +15,7 @@ use Rattle.message_types.specs.declared.message.Body.TheVariants.{Reclaim, Recla
 use Rattle.message_types.specs.declared.message.Direction.{Direction}
 use Rattle.message_types.specs.declared.message.Direction.TheVariants.{ToHost, ToServer}
 use Rattle.message_types.specs.declared.message.Message.{Message}
-use Rattle.run_rules.specs.Doings.{Doing, HasReclaimed, IsLive, ListedNow, SentNow, after_cause, after_step, doings_of}
+use Rattle.run_rules.specs.Doings.{Doing, HasReclaimed, IsLive, ListedNow, SentNow, after_cause, doings_of}
 use Rattle.run_rules.specs.Doings.{epoch}
 use Rattle.run_rules.specs.HostMay.{LearnsRestart}
 use Rattle.run_rules.specs.Messages.{HasGreeted, HasStopped, epoch_at, epoch_raised, epoch_raised_by}
@@ -31,7 +31,8 @@ use Rattle.run_rules.specs.declared.step.Step.{Step}
 use Rattle.run_tokens.proofs.Law.{Whole}
 use Rattle.run_tokens.proofs.Words.{epoch_grows, if_host, own_after, raised_cases}
 use Rattle.run_goes_on.proofs.Arriving.{due_at, meets_at, whole_at}
-use Rattle.run_goes_on.proofs.Doings.{Knows, epoch_after_cause, epoch_after_step, epoch_step, knows, reclaimed_by, sent_so}
+use Rattle.run_goes_on.proofs.Doings.{Knows, epoch_after_cause, epoch_after_step, epoch_step}
+use Rattle.run_goes_on.proofs.Doings.{knows, reclaimed_by, sent_so}
 use Rattle.run_goes_on.proofs.Positions.{Cut, cut, doings_on, host_steps, own_on, server_doings}
 use Rattle.run_goes_on.proofs.Posted.{comes_of}
 use Rattle.run_goes_on.specs.Rest.{AllIsOver, IsStopped, IsTakenIn, LapsesIn, NoneIsHeld}
@@ -234,7 +235,8 @@ module _ (script : Script) (start : Tree) (firsts : ServerId → ℕ) (real : (v
       step_raises l p t a (Server u) at up = absurd (omega (arith, up))
       step_raises l p t a (Host k) at up =
           if_host (λ (L : List Step). epoch_at (own p) v < epoch_at L v → ⊥) k host (t ∷ own p) (own p)
-          (λ same lt. raise_none l p t (let q : suc (length l) ≤ length later = a.short in omega (arith, q)) a.whole a.mark
+          (λ same lt. raise_none l p t (let q : suc (length l) ≤ length later = a.short in omega
+          (arith, q)) a.whole a.mark
           (at ∙ ap Host same) lt) (λ lt. absurd (omega (arith, lt))) up
 
       raises : (l p : List Step) → At l p → epoch_at (own p) v < epoch_at (own (appended l p)) v → ⊥
@@ -248,7 +250,8 @@ module _ (script : Script) (start : Tree) (firsts : ServerId → ℕ) (real : (v
       -- so the host's epoch has stayed as it was
       pub still : epoch_at (own run) v ≤ e0
       still = elim (decide e0 (epoch_at (own run) v)) [
-        | inl up ↦ absurd (raises later (s ∷ past) first (subst (λ (L : List Step). e0 < epoch_at (own L) v) (sym e) up))
+        | inl up ↦ absurd (raises later (s ∷ past) first (subst (λ (L : List Step). e0 < epoch_at (own L) v)
+            (sym e) up))
         | inr le ↦ le
       ]
 
@@ -284,7 +287,8 @@ module _ (script : Script) (start : Tree) (firsts : ServerId → ℕ) (real : (v
       tells_round : (l p : List Step) (t : Step) → Tells l p t
           → ((k q : List Step) (u : Step) → length k < length l → Tells k q u → ⊥) → ⊥
       tells_round l p t (a, at, (m, i, is, body), up) next =
-          elim (server_sends l p t a.whole at m i is (Server m.server) (ap (λ (b : Body). resender_by b m) body) (λ st. st)) [
+          elim (server_sends l p t a.whole at m i is (Server m.server) (ap (λ (b : Body). resender_by b m) body)
+          (λ st. st)) [
             | inl lapses ↦ lapsing (cut l (t ∷ p) lapses.0 lapses.1) lapses.2 lapses.3
             | inr taken ↦ raising (cut l (t ∷ p) taken.0 taken.1) taken.2 taken.3
           ]

@@ -10,15 +10,15 @@ use Rattle.tree_answers.specs.declared.tree.Tree.{Tree}
 use Rattle.script_lines.specs.declared.script.Script.{Script}
 use Rattle.message_types.specs.declared.giving.Reclaimed.{Reclaimed as ReclaimedOf}
 use Rattle.message_types.specs.declared.message.Body.{Body}
-use Rattle.message_types.specs.declared.message.Body.TheVariants.{Down, Hello, Reclaimed, Restarted}
+use Rattle.message_types.specs.declared.message.Body.TheVariants.{Hello, Reclaimed, Restarted}
 use Rattle.message_types.specs.declared.message.Direction.TheVariants.{ToHost, ToServer}
 use Rattle.message_types.specs.declared.message.Message.{Message}
-use Rattle.run_rules.specs.Doings.{Doing, GoesAway, HasGoneAway, HasGoneDown, IsLive, Listed, ListedNow, SentNow}
+use Rattle.run_rules.specs.Doings.{Doing, GoesAway, HasGoneAway, IsLive, ListedNow, SentNow}
 use Rattle.run_rules.specs.Doings.{after_cause, after_step, doings_of, epoch}
 use Rattle.run_rules.specs.HostDue.{HostDue}
-use Rattle.run_rules.specs.HostMay.{AwaitsReclaimed}
-use Rattle.run_rules.specs.Messages.{HasGreeted, HasStopped, IsWelcome, Said, Sends, epoch_at, epoch_raised, epoch_raised_by}
-use Rattle.run_rules.specs.Past.{Always, In, Once, appended}
+use Rattle.run_rules.specs.Messages.{HasGreeted, HasStopped, IsWelcome, Said, Sends}
+use Rattle.run_rules.specs.Messages.{epoch_at, epoch_raised, epoch_raised_by}
+use Rattle.run_rules.specs.Past.{Always, appended}
 use Rattle.run_rules.specs.Plans.{resender_by}
 use Rattle.run_rules.specs.Runs.{IsFrom, StepDue, StepMeets, StepsMeet, firsts_of, past_of}
 use Rattle.run_rules.specs.ServerDue.{ServerDue, empty_reclaimed}
@@ -26,7 +26,7 @@ use Rattle.run_rules.specs.Steps.{steps_of_host, steps_of_server}
 use Rattle.run_rules.specs.declared.step.Cause.{Cause}
 use Rattle.run_rules.specs.declared.step.Cause.TheVariants.{Lapse, Message as Came}
 use Rattle.run_rules.specs.declared.step.Step.{Step}
-use Rattle.run_tokens.proofs.Words.{acts_after, epoch_grows, if_host, if_server}
+use Rattle.run_tokens.proofs.Words.{acts_after, epoch_grows, if_server}
 use Rattle.run_goes_on.proofs.Answering.{claims_are_answered}
 use Rattle.run_goes_on.proofs.Arriving.{due_at, due_of, found, from_one, host_sends, meets_at, step_on}
 use Rattle.run_goes_on.proofs.Doings.{above_first, epoch_after_cause, sent_so}
@@ -171,7 +171,8 @@ module _ (script : Script) (start : Tree) (firsts : ServerId → ℕ) (real : (v
       -- a Reclaimed would raise the host's epoch
       welcomes_not : SentNow t host (Reclaimed empty_reclaimed) → ⊥
       welcomes_not (w, i, is, body) =
-          elim (server_sends script start firsts real run meets due over none host live v c.after c.before t whole at w i
+          elim (server_sends script start firsts real run meets due over none host live v c.after c.before t whole
+          at w i
           is (Host host) (ap (λ (b : Body). resender_by b w) body ∙ ap Host is) live) [
             | inl lapses ↦ lapses_not c.after (t ∷ c.before) whole short after_t lapses
             | inr taken ↦ raises (cut c.after (t ∷ c.before) taken.0 taken.1) taken.2 taken.3
@@ -183,7 +184,8 @@ module _ (script : Script) (start : Tree) (firsts : ServerId → ℕ) (real : (v
           raises : {u : Step} → Cut (t ∷ c.before) c.after u → u.cause ≡ Came w → u.node ≡ Host host → ⊥
           raises {u = u} d cause_u node_u =
               let is_e = (sent_so v t (acts c.before)
-              (server_may script start firsts real run meets due over none host live v c.after c.before t whole at).tokens
+              (server_may script start firsts real run meets due over none host live v c.after c.before t whole
+              at).tokens
               w i).2 in
               let up : 0 < epoch (acts c.before) = above_first script start firsts real c.before v in
               let grows = epoch_after_cause t (acts c.before) in
@@ -199,9 +201,11 @@ module _ (script : Script) (start : Tree) (firsts : ServerId → ℕ) (real : (v
       tells_not : IsLive (acts c.before) host → (ListedNow (acts c.before) host → ⊥) → SentNow t host Restarted → ⊥
       tells_not lives old sent =
           tells_none script start firsts real run meets due over none host live v IsOld old_on
-          (λ l p w mark. (mark.listed.0, here_yet l p w)) (λ l p w mark now. absurd (mark.listed.1 now)) c.before c.after
+          (λ l p w mark. (mark.listed.0, here_yet l p w)) (λ l p w mark now. absurd
+          (mark.listed.1 now)) c.before c.after
           t whole is_old
-          (λ l p u lt w mark at_u lapse. lapse_at l p u (let le = short in omega (arith, lt, le)) w mark.greeted at_u lapse)
+          (λ l p u lt w mark at_u lapse. lapse_at l p u (let le = short in omega
+          (arith, lt, le)) w mark.greeted at_u lapse)
           (λ l p u lt w mark at_u up. (
           let z : epoch_at (u ∷ own p) v ≡ 0 =
           subst (λ (L : List Step). epoch_at L v ≡ 0) (host_steps host u p at_u) (zero_then l (u ∷ p) w) in
@@ -284,5 +288,6 @@ greetings_are_answered script journal q host live v n stays (greeted, unwelcome,
     (due_of script journal q.run q.dutiful) host v
     (λ come. unwelcome (is_welcome v (epoch_at (steps_of_host host (past_of journal)) v)
     (steps_of_host host (past_of journal)) come))
-    (claims_are_answered script journal q host live v stays)) (suc (length f.after)) f.before f.after f.step (omega arith)
+    (claims_are_answered script journal q host live v stays)) (suc (length f.after)) f.before f.after f.step
+    (omega arith)
     f.whole f.node f.here

@@ -1,6 +1,7 @@
 ghost use Rattle.run_goes_on.specs.Resting.{HostsAreDone, HostsComeToTheirEnd, OpenCallsStandAtServers};
 ghost use Rattle.run_goes_on.specs.Waiting.{ByesAreAnswered, ClaimsAreAnswered, GivesAreKnown, GreetingsAreAnswered};
-ghost use Rattle.run_goes_on.specs.Waiting.{NoGracePeriodStands, OpenCallsAwaitAnswers, WhatWaitsHasCome};
+ghost use Rattle.run_goes_on.specs.Waiting.{NoGracePeriodStands, NothingIsOwed, OpenCallsAwaitAnswers};
+ghost use Rattle.run_goes_on.specs.Waiting.{WhatWaitsHasCome};
 
 /// After each step of a run a host that has an open call, and hasn't stopped, awaits an answer: a message of it is
 /// outstanding, which each lapse sends again. Refused: a call that waits for nothing.
@@ -43,6 +44,12 @@ pub fn byes_are_answered()
 /// that is lost; a stop that a server doesn't hear of.
 pub fn no_grace_period_stands()
     ensures { NoGracePeriodStands }
+{}
+
+/// And no server waits for a token that it asked back. Refused: a Revoke that is lost and not said again; one that a host
+/// doesn't answer; an answer that is lost, for which nobody asks again.
+pub fn nothing_is_owed()
+    ensures { NothingIsOwed }
 {}
 
 /// So each open call stands at a server: its greeting or its request is outstanding there, and has come. Refused: a
