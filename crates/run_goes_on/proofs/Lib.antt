@@ -21,4 +21,5 @@ pub mod Done
 pub mod Queueing
 pub mod Numbering
 pub mod Requests
+pub mod Meaning
 pub mod Standing
