@@ -1,4 +1,6 @@
+pub mod Needing
 pub mod Positions
+pub mod Calling
 pub mod Calls
 pub mod Posted
 pub mod Staying
