@@ -1,7 +1,7 @@
 -- An open call goes to one server, and stays open there until that has welcomed the host: so a host that greeted a
 -- server, and isn't welcome there, has an open call; and it says Bye to none that it isn't welcome at.
-use Rattle.std.proofs.Common.{Bool, List, None, Option, Some, [], ap, arith, false, inl, inr, length, nat_le, not, refl}
-use Rattle.std.proofs.Common.{subst, sym, true, ℕ, ◌&&◌, ◌+◌, ◌<◌, ◌==◌, ◌∙◌, ◌∷◌, ◌≡◌, ◌≤◌, ◌⊎◌}
+use Rattle.std.proofs.Common.{Bool, List, None, Option, Some, [], ap, arith, false, inl, inr, length, nat_le, refl}
+use Rattle.std.proofs.Common.{subst, sym, true, ℕ, ◌&&◌, ◌==◌, ◌∙◌, ◌∷◌, ◌≡◌, ◌⊎◌}
 use Rattle.std.proofs.lemmas.Bool.{and_from, and_parts, eq-eqb, eqb-true, false≢true, leb-false, lt-leb}
 use Rattle.std.proofs.lemmas.List.Sums.{count_by-le-length, sum_by-cons}
 use Rattle.std.specs.List.{list_any}
@@ -20,7 +20,6 @@ use Rattle.tree_calls.specs.declared.call.Call.TheVariants.{OpenFile, Read, Remo
 use Rattle.tree_calls.specs.declared.call.Call.TheVariants.{Truncate, Unlock, Write}
 use Rattle.tree_calls.specs.declared.reply.Refusal.{Refusal}
 use Rattle.tree_calls.specs.declared.reply.Refusal.TheVariants.{AlreadyLocked, AlreadyOpened, TooMany}
-use Rattle.tree_calls.specs.declared.reply.Reply.{Reply}
 use Rattle.tree_calls.specs.declared.reply.Reply.TheVariants.{Refused}
 use Rattle.tree_calls.specs.declared.roster.Roster.{Roster}
 use Rattle.tree_answers.specs.Locks.{has_lock, lock_count}
@@ -37,7 +36,7 @@ use Rattle.script_lines.specs.declared.script.Script.{Script}
 use Rattle.message_types.specs.declared.asking.Change.{Change as ChangeOf}
 use Rattle.message_types.specs.declared.giving.Reclaimed.{Reclaimed as ReclaimedOf}
 use Rattle.message_types.specs.declared.message.Body.{Body}
-use Rattle.message_types.specs.declared.message.Body.TheVariants.{Bye, Change, Done, Hello, Reclaimed}
+use Rattle.message_types.specs.declared.message.Body.TheVariants.{Bye, Change, Reclaimed}
 use Rattle.message_types.specs.declared.message.Message.{Message}
 use Rattle.message_types.specs.declared.telling.Done.{Done as DoneOf}
 use Rattle.need_host.proofs.Asking.{questions_are_about_filesets}
@@ -46,7 +45,6 @@ use Rattle.need_host.specs.Calls.{read_look, refuse, reply_now, stat_look, acces
 use Rattle.need_host.specs.Calls.Verdict.{Asks, Replies}
 use Rattle.need_host.specs.Laws.{IsAbout}
 use Rattle.need_host.specs.Looks.{IsFirstLack, Look, View, needs_of, outcome}
-use Rattle.need_host.specs.Looks.Look.{Ends}
 use Rattle.need_host.specs.Questions.{Question, fileset_of, is_change}
 use Rattle.need_host.specs.Questions.Question.{ChangeAt, ChangeIn, EnterAt}
 use Rattle.base_types.specs.declared.ids.Fid.{Fid}
@@ -56,16 +54,15 @@ use Rattle.run_contents.specs.Steps.{HostRun}
 use Rattle.run_examples.proofs.LeaveChecks.{no_more}
 use Rattle.run_examples.proofs.Words.{moved}
 use Rattle.run_history.proofs.Asking.{all_well}
-use Rattle.run_rules.specs.HostAsks.{GoesTo, HasChanged, IsNewChange}
+use Rattle.run_rules.specs.HostAsks.{GoesTo, IsNewChange}
 use Rattle.run_rules.specs.HostDue.{HostDue}
-use Rattle.run_rules.specs.HostMay.{HostMay}
-use Rattle.run_rules.specs.Messages.{Changing, Comes, ComesIn, DoneComes, HasGreeted, HasSaid, IsWelcome, Said, Says}
-use Rattle.run_rules.specs.Messages.{Sends, Stay, epoch_at, home, stay_of}
+use Rattle.run_rules.specs.Messages.{Changing, ComesIn, DoneComes, HasGreeted, HasSaid, IsWelcome, Said, Says}
+use Rattle.run_rules.specs.Messages.{Sends, Stay, epoch_at, home}
 use Rattle.run_rules.specs.Past.{Always, EachOnce, In, appended}
 use Rattle.run_rules.specs.Runs.{StepDue, StepsMeet}
 use Rattle.run_rules.specs.Steps.{steps_of_host}
 use Rattle.run_rules.specs.Tokens.{CauseEnds, IsOpen, LearnsEnd, NoneOpen, end_call, end_of}
-use Rattle.run_rules.specs.Views.{Entered, HasLabel, IsLock, IsOpening, KnowsItself, Stance, needs_in, sees, stay_asked}
+use Rattle.run_rules.specs.Views.{Entered, HasLabel, KnowsItself, Stance, needs_in, sees, stay_asked}
 use Rattle.run_rules.specs.Views.{verdict_in}
 use Rattle.run_rules.specs.declared.step.Asked.{Asked}
 use Rattle.run_rules.specs.declared.step.Cause.{Cause}
@@ -371,64 +368,64 @@ module _ {U : Type 0} (hold : U → Hold) (host : HostId) (label : List ℕ) (xs
 module _ (script : Script) (host : HostId) where
   -- no label comes while a call is open
   module _ (A : List Step) (s t : Step) (run : HostRun script host (s ∷ A)) (call : Asked) (o : IsOpen (s ∷ A) call)
-      where
-    begun_none : (u : Labelled) → In u s.begun → ⊥
-    begun_none u i =
-        let b = run.1.answers.begins u i in
-        let a = run.1.answers.answers b.0 b.1 in
-        elim o [
-          | inl asked ↦ run.1.answers.asked b.0 call b.1 asked
-          | inr old ↦ elim a.1 [
-            | inl begins ↦ begins_free script host A s run.1 b.0.k b.0.call begins call old.0
-            | inr on ↦ old.2 b.0 b.1
-                (ap (λ (c : Asked). c.k)
-                (one_open script host A run.0 (record { k = b.0.k; call = b.0.call }) call on.0 old.0))
+    where
+      begun_none : (u : Labelled) → In u s.begun → ⊥
+      begun_none u i =
+          let b = run.1.answers.begins u i in
+          let a = run.1.answers.answers b.0 b.1 in
+          elim o [
+            | inl asked ↦ run.1.answers.asked b.0 call b.1 asked
+            | inr old ↦ elim a.1 [
+              | inl begins ↦ begins_free script host A s run.1 b.0.k b.0.call begins call old.0
+              | inr on ↦ old.2 b.0 b.1
+                  (ap (λ (c : Asked). c.k)
+                  (one_open script host A run.0 (record { k = b.0.k; call = b.0.call }) call on.0 old.0))
+            ]
           ]
-        ]
 
-    had : (u : Labelled) → HasLabel (s ∷ A) t u → HasLabel A s u
-    had u (inl (inl begun)) = absurd (begun_none u begun)
-    had u (inl (inr used)) = inl used.0
-    had u (inr (give, inl ended, unknown)) = inl ended.1
-    had u (inr (give, inr ended, unknown)) = inr (give, ended, λ known. unknown (inr known))
+      had : (u : Labelled) → HasLabel (s ∷ A) t u → HasLabel A s u
+      had u (inl (inl begun)) = absurd (begun_none u begun)
+      had u (inl (inr used)) = inl used.0
+      had u (inr (give, inl ended, unknown)) = inl ended.1
+      had u (inr (give, inr ended, unknown)) = inr (give, ended, λ known. unknown (inr known))
 
-    module _ (own new : Own) (knows : KnowsItself host A s own) (knows_new : KnowsItself host (s ∷ A) t new) where
-      locks_back : (lock : LockUse) → In lock new.locks → In lock own.locks
-      locks_back lock i =
-          let k = (knows_new.locks lock).0 i in (knows.locks lock).1 (k.0, had k.0 k.1, k.2)
+      module _ (own new : Own) (knows : KnowsItself host A s own) (knows_new : KnowsItself host (s ∷ A) t new) where
+        locks_back : (lock : LockUse) → In lock new.locks → In lock own.locks
+        locks_back lock i =
+            let k = (knows_new.locks lock).0 i in (knows.locks lock).1 (k.0, had k.0 k.1, k.2)
 
-      opens_back : (opened : OpenUse) → In opened new.opens → In opened own.opens
-      opens_back opened i =
-          let k = (knows_new.opens opened).0 i in (knows.opens opened).1 (k.0, had k.0 k.1, k.2)
+        opens_back : (opened : OpenUse) → In opened new.opens → In opened own.opens
+        opens_back opened i =
+            let k = (knows_new.opens opened).0 i in (knows.opens opened).1 (k.0, had k.0 k.1, k.2)
 
-      free_on : (c : Call) → Free own host c → Free new host c
-      free_on (LockCall label place writing from len) free = (
-        label_less lock_hold host label own.locks new.locks locks_back free.0,
-        count_less lock_hold host label own.locks new.locks locks_back knows_new.locks_once
-            (λ lock i. (let k = (knows.locks lock).0 i in k.2.0)) free.1,
-      )
-      free_on (OpenFile label place kind) free = (
-        label_less open_hold host label own.opens new.opens opens_back free.0,
-        count_less open_hold host label own.opens new.opens opens_back knows_new.opens_once
-            (λ opened i. (let k = (knows.opens opened).0 i in k.2.0)) free.1,
-      )
-      free_on (NewFileset server name objects owner) free = tt
-      free_on (CloneFileset server source copy) free = tt
-      free_on (Create place) free = tt
-      free_on (MakeDir place) free = tt
-      free_on (Remove place) free = tt
-      free_on (Rename from to) free = tt
-      free_on (Truncate place len) free = tt
-      free_on (SetAcl place which list) free = tt
-      free_on (MoveFileset server name to) free = tt
-      free_on (Read place from len) free = tt
-      free_on (Write place from bytes) free = tt
-      free_on (ListNames place) free = tt
-      free_on (Stat place) free = tt
-      free_on (GetAcl place which) free = tt
-      free_on (Sync place) free = tt
-      free_on (Unlock label) free = tt
-      free_on (CloseFile label) free = tt
+        free_on : (c : Call) → Free own host c → Free new host c
+        free_on (LockCall label place writing from len) free = (
+          label_less lock_hold host label own.locks new.locks locks_back free.0,
+          count_less lock_hold host label own.locks new.locks locks_back knows_new.locks_once
+              (λ lock i. (let k = (knows.locks lock).0 i in k.2.0)) free.1,
+        )
+        free_on (OpenFile label place kind) free = (
+          label_less open_hold host label own.opens new.opens opens_back free.0,
+          count_less open_hold host label own.opens new.opens opens_back knows_new.opens_once
+              (λ opened i. (let k = (knows.opens opened).0 i in k.2.0)) free.1,
+        )
+        free_on (NewFileset server name objects owner) free = tt
+        free_on (CloneFileset server source copy) free = tt
+        free_on (Create place) free = tt
+        free_on (MakeDir place) free = tt
+        free_on (Remove place) free = tt
+        free_on (Rename from to) free = tt
+        free_on (Truncate place len) free = tt
+        free_on (SetAcl place which list) free = tt
+        free_on (MoveFileset server name to) free = tt
+        free_on (Read place from len) free = tt
+        free_on (Write place from bytes) free = tt
+        free_on (ListNames place) free = tt
+        free_on (Stat place) free = tt
+        free_on (GetAcl place which) free = tt
+        free_on (Sync place) free = tt
+        free_on (Unlock label) free = tt
+        free_on (CloseFile label) free = tt
 
   -- # A Change that is outstanding is of the open call, and went to its server, which has welcomed the host
 
@@ -750,9 +747,8 @@ module _ (script : Script) (start : Tree) (firsts : ServerId → ℕ) where
   own_dues (s ∷ past) due h = due_step s.node past s h (own_dues past due.0 h) due.1
 
   module _ (run : List Step) (meets : StepsMeet script start firsts run)
-      (due : Always (λ before s. StepDue script start firsts s.node before s) run) (real : (v : ServerId) → 0 < firsts v)
-      (host : HostId) (v : ServerId) where
-    -- a host says Bye to a server when it is welcome there
+      (due : Always (λ before s. StepDue script start firsts s.node before s) run) (host : HostId) (v : ServerId) where
+    -- when a host says Bye to a server it is welcome there
     pub byes_welcome : (l p : List Step) (s : Step) → appended (s ∷ l) p ≡ run → s.node ≡ Host host → Says s v Bye
         → IsWelcome (steps_of_host host p) v
     byes_welcome l p s whole node says =

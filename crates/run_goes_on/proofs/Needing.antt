@@ -18,7 +18,6 @@ use Rattle.tree_calls.specs.declared.call.Call.TheVariants.{OpenFile, Read, Remo
 use Rattle.tree_calls.specs.declared.call.Call.TheVariants.{Truncate, Unlock, Write}
 use Rattle.tree_calls.specs.declared.part.DirEntry.{DirEntry}
 use Rattle.tree_calls.specs.declared.place.Which.{Which}
-use Rattle.tree_calls.specs.declared.reply.Facts.{Facts as FactsOf}
 use Rattle.tree_calls.specs.declared.reply.Refusal.{Refusal}
 use Rattle.tree_calls.specs.declared.reply.Refusal.TheVariants.{AlreadyLocked, AlreadyOpened, Denied, IsDir, NotDir}
 use Rattle.tree_calls.specs.declared.reply.Refusal.TheVariants.{NotLocked, NotOpened, ReadOnly, TooBig, TooMany}
@@ -30,11 +29,10 @@ use Rattle.tree_objects.specs.Entries.{entry_named, names_of}
 use Rattle.tree_objects.specs.Spans.{span_between}
 use Rattle.tree_answers.specs.Locks.{has_lock, is_own_locked, lock_count}
 use Rattle.tree_answers.specs.Opens.{has_open, open_count}
-use Rattle.token_types.specs.declared.token.Kind.{Kind}
-use Rattle.token_types.specs.declared.token.Kind.TheVariants.{Bytes as BytesKind, Lock as LockKind, Opening as OpeningKind}
-use Rattle.token_types.specs.declared.token.Kind.TheVariants.{Status as StatusKind}
+use Rattle.token_types.specs.declared.token.Kind.TheVariants.{Bytes as BytesKind, Lock as LockKind}
+use Rattle.token_types.specs.declared.token.Kind.TheVariants.{Opening as OpeningKind, Status as StatusKind}
 use Rattle.token_types.specs.declared.token.Need.{Need}
-use Rattle.tree_laws.specs.Parts.{Nature, Part}
+use Rattle.tree_laws.specs.Parts.{Nature}
 use Rattle.tree_laws.specs.Parts.Part.{ByteAt, Entries, Size, Traits}
 use Rattle.need_host.proofs.Looking.{outcome_checked}
 use Rattle.need_host.proofs.Updates.{needs_on}
@@ -48,7 +46,7 @@ use Rattle.need_host.specs.Looks.{rounded}
 use Rattle.need_host.specs.Looks.Look.{Ends, Looks, Takes}
 use Rattle.need_host.specs.Questions.{fileset_of}
 use Rattle.need_host.specs.Walks.{fid_in, file_look, nature_look, permitted, permitted_look, rights_on, root_of}
-use Rattle.need_host.specs.Walks.{search_look, step_look, target_look, use_look, walk_look, writable_look}
+use Rattle.need_host.specs.Walks.{search_look, step_look, target_look, use_look, walk_look}
 use Rattle.run_rules.specs.Past.{In}
 
 -- the checks of a file, of one that is used, and what it is that was found
@@ -98,7 +96,8 @@ module _ (fs : FilesetId) (view : View) where
   ok_lies {A} P x p = ends_lie P (Ok x) (λ y e. (let same : x ≡ y = cc in subst P same p))
 
   checked_lies : {A B : Type 0} (P : A → Type 0) (Q : B → Type 0) (look : Look (Result A Refusal))
-      (next : A → Look (Result B Refusal)) → Lies P look → ((x : A) → P x → Lies Q (next x)) → Lies Q (checked look next)
+      (next : A → Look (Result B Refusal)) → Lies P look → ((x : A) → P x → Lies Q (next x))
+      → Lies Q (checked look next)
   checked_lies {A} {B} P Q look next a b = (
     on_in look (after_check next) a.0 (needs (outcome view look) refl),
     λ x e. ends (outcome view look) refl x (sym (outcome_checked view look next) ∙ e),
@@ -279,14 +278,16 @@ module _ (fs : FilesetId) (view : View) where
     list_in : Within (list_look user root path)
     unfolding list_look
     list_in =
-        judged_in (checked (target_look user root path) (entries_for user)) (λ entries. Replies (Names (names_of entries)))
+        judged_in (checked (target_look user root path) (entries_for user))
+        (λ entries. Replies (Names (names_of entries)))
         (checked_lies FoundIn Any (target_look user root path) (entries_for user) target_lies ended).0
       where
         ended : (found : Fid × Nature) → FoundIn found → Lies Any (entries_for user found)
         ended (fid, nature) q =
             refuse_lies Any (not nature.dir) NotDir
             (permitted nature user read_right (Looks fid Entries (λ entries. Ends (Ok entries))))
-            (right_lies Any nature user read_right (Looks fid Entries (λ entries. Ends (Ok entries))) (entries_lie fid q))
+            (right_lies Any nature user read_right (Looks fid Entries (λ entries. Ends (Ok entries)))
+            (entries_lie fid q))
 
     stat_in : Within (stat_look user root path)
     unfolding stat_look
