@@ -45,7 +45,8 @@ use Rattle.run_goes_on.proofs.Doings.{listed_said, sent_so}
 use Rattle.run_goes_on.proofs.Positions.{Cut, cut, host_steps, own_on, own_run}
 use Rattle.run_goes_on.proofs.Staying.{SendsIt, WasSent, give_said, said_so}
 use Rattle.run_goes_on.proofs.Telling.{After, above_before, after, below, decide, first, learns_by, mark_before}
-use Rattle.run_goes_on.proofs.Telling.{no_lapse, server_due, server_from, server_may, server_sends, tells_none, whole_cut}
+use Rattle.run_goes_on.proofs.Telling.{no_lapse, server_due, server_from, server_may, server_sends, tells_none}
+use Rattle.run_goes_on.proofs.Telling.{whole_cut}
 use Rattle.run_goes_on.specs.Rest.{AllIsOver, IsTakenIn, LapsesIn, NoneIsHeld}
 use Rattle.run_goes_on.specs.Waiting.{GivesAreKnown}
 
@@ -248,8 +249,8 @@ module _ (script : Script) (start : Tree) (firsts : ServerId → ℕ) (real : (v
 
     start_at : At later (s ∷ past)
     start_at =
-        first script start firsts real run meets due over none host live v WasGiven sent_on live_at listed_new past later
-        s e marked lapse_none raise_none
+        first script start firsts real run meets due over none host live v WasGiven sent_on live_at listed_new past
+        later s e marked lapse_none raise_none
 
     lapses_not : (l p : List Step) → At l p → LapsesIn l (Host host) → ⊥
     lapses_not =
@@ -258,8 +259,8 @@ module _ (script : Script) (start : Tree) (firsts : ServerId → ℕ) (real : (v
 
     under : (l p : List Step) → appended l p ≡ run → epoch_at (own p) v ≤ e0
     under =
-        below script start firsts real run meets due over none host live v WasGiven sent_on live_at listed_new past later
-        s e marked lapse_none raise_none
+        below script start firsts real run meets due over none host live v WasGiven sent_on live_at listed_new past
+        later s e marked lapse_none raise_none
 
     tells_not : (l p : List Step) (t : Step) → At l (t ∷ p) → t.node ≡ Server v → SentNow t host Restarted
         → e0 < epoch (after_cause t.cause (acts p)) → ⊥
@@ -272,8 +273,8 @@ module _ (script : Script) (start : Tree) (firsts : ServerId → ℕ) (real : (v
         → SentNow t host (Gone (number_of g))
         → epoch (after_cause t.cause (acts p)) ≡ e0 → ⊥
     gone_none l p t a at (m, i, is, body) same =
-        elim (server_sends script start firsts real run meets due over none host live v l p t a.whole at m i is (Host host)
-        (ap (λ (b : Body). resender_by b m) body ∙ ap Host is) live) [
+        elim (server_sends script start firsts real run meets due over none host live v l p t a.whole at m i is
+        (Host host) (ap (λ (b : Body). resender_by b m) body ∙ ap Host is) live) [
           | inl lapses ↦ lapses_not l (t ∷ p) a lapses
           | inr taken ↦ learns (cut l (t ∷ p) taken.0 taken.1) taken.2 taken.3
         ]
