@@ -767,3 +767,9 @@ module _ (script : Script) (start : Tree) (firsts : ServerId → ℕ) where
 
         homes : AreHome (steps_of_host host p)
         homes = (all_well script start firsts p met.0 host).entered
+
+    -- so it is welcome at each server that it has said Bye to
+    pub welcome_of_bye : HasSaid (steps_of_host host run) v Bye → IsWelcome (steps_of_host host run) v
+    welcome_of_bye =
+        said_welcome script host v (steps_of_host host run) (own_run script start firsts run meets host)
+        (own_dues run due host) (all_well script start firsts run meets host).entered
