@@ -20,3 +20,7 @@ pub mod Granting
 pub mod Owing
 pub mod Resting
 pub mod Done
+pub mod Queueing
+pub mod Numbering
+pub mod Requests
+pub mod Standing
