@@ -20,7 +20,6 @@ use Rattle.run_rules.specs.Messages.{HasStopped}
 use Rattle.run_rules.specs.Past.{Always, In}
 use Rattle.run_rules.specs.Steps.{goes_with, is_node, lines_gone, lines_of}
 use Rattle.run_rules.specs.declared.step.Cause.{Cause}
-use Rattle.run_rules.specs.declared.step.Cause.TheVariants.{Line as LineOf}
 use Rattle.run_rules.specs.declared.step.Step.{Step}
 
 -- # Whether a host has stopped
@@ -90,7 +89,8 @@ module _ (host : HostId) where
   none_of node at [] e = refl
   none_of node at (x ∷ xs) e = go (its x) refl (is_of node x) refl (none_of node at xs)
     where
-      go : (b : Bool) → its x ≡ b → (c : Bool) → is_of node x ≡ c → (list_any (is_of node) xs ≡ false → filter its xs ≡ [])
+      go : (b : Bool) → its x ≡ b → (c : Bool) → is_of node x ≡ c
+          → (list_any (is_of node) xs ≡ false → filter its xs ≡ [])
           → (if b then x ∷ filter its xs else filter its xs) ≡ []
       go true q c o rest =
           absurd (false≢true (sym e ∙ ap (λ (b : Bool). b || list_any (is_of node) xs)

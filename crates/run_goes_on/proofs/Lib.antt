@@ -24,3 +24,7 @@ pub mod Queueing
 pub mod Numbering
 pub mod Requests
 pub mod Standing
+pub mod Unblocking
+pub mod Shutting
+pub mod Closing
+pub mod Ending

@@ -1,6 +1,5 @@
 -- In a run that rests no want waits: the first of those that wait could be decided.
 use Rattle.std.proofs.Common.{List, [], inl, inr, subst, ℕ, ◌∷◌, ◌≡◌, ◌⊎◌}
-use Rattle.base_types.specs.declared.ids.HostId.{HostId}
 use Rattle.base_types.specs.declared.ids.Node.{Node}
 use Rattle.base_types.specs.declared.ids.Node.TheVariants.{Host, Server}
 use Rattle.base_types.specs.declared.ids.ServerId.{ServerId}
