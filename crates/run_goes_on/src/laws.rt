@@ -33,8 +33,8 @@ pub fn greetings_are_answered()
     ensures { GreetingsAreAnswered }
 {}
 
-/// Nor a Bye that its host said when it was welcome. Refused: a Bye of an older epoch that a server passes over; one
-/// that isn't said again once the host has claimed in the new epoch.
+/// Nor a Bye. Refused: a Bye of an older epoch that a server passes over; one that isn't said again once the host has
+/// claimed in the new epoch; one to a server that hasn't welcomed the host yet.
 pub fn byes_are_answered()
     ensures { ByesAreAnswered }
 {}
@@ -46,8 +46,8 @@ pub fn no_grace_period_stands()
     ensures { NoGracePeriodStands }
 {}
 
-/// And no server waits for a token that it asked back. Refused: a Revoke that is lost and not said again; one that a host
-/// doesn't answer; an answer that is lost, for which nobody asks again.
+/// And no server waits for a token that it asked back. Refused: a Revoke that is lost and not said again; one that a
+/// host doesn't answer; an answer that is lost, for which nobody asks again.
 pub fn nothing_is_owed()
     ensures { NothingIsOwed }
 {}
@@ -65,7 +65,7 @@ pub fn hosts_come_to_their_end()
     ensures { HostsComeToTheirEnd }
 {}
 
-/// And where it said each Bye when it was welcome it is done: each server that it greeted has said Bye to it.
+/// And each server that it greeted has said Bye to it: it is done. Refused: a server that doesn't answer a Bye.
 pub fn hosts_are_done()
     ensures { HostsAreDone }
 {}
