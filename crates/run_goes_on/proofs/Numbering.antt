@@ -361,8 +361,8 @@ module _ (script : Script) (start : Tree) (firsts : ServerId → ℕ) (real : (v
             let u = home done.fileset in
             above u (λ z. absurd (
             let said = sent_by u 0 k in
-            zero_silent script start firsts real past run u
-            (zero_home script start firsts real done.fileset (ap (λ (x : FilesetId). x.0) files ∙ z)) host said.0 said.1 (Done done) said.2
+            let none = zero_home script start firsts real done.fileset (ap (λ (x : FilesetId). x.0) files ∙ z) in
+            zero_silent script start firsts real past run u none host said.0 said.1 (Done done) said.2
             )) (sent_by u 0 k)
             )
       ]

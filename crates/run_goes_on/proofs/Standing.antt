@@ -20,7 +20,8 @@ use Rattle.message_types.specs.declared.message.Message.{Message}
 use Rattle.message_types.specs.declared.telling.Done.{Done as DoneOf}
 use Rattle.message_types.specs.declared.telling.DoneIs.TheVariants.{Reply as HasReply}
 use Rattle.run_rules.specs.Doings.{Doing, GoesAway, HasGoneAway, HasReclaimed, IsLive, IsNewEpoch, Listed, SentNow}
-use Rattle.run_rules.specs.Doings.{SentTo, TakenNow, WasWritten, admitting, after_admitting, after_cause, after_deciding}
+use Rattle.run_rules.specs.Doings.{SentTo, TakenNow, WasWritten, admitting, after_admitting, after_cause}
+use Rattle.run_rules.specs.Doings.{after_deciding}
 use Rattle.run_rules.specs.Doings.{after_sending, after_step, deciding, doings_of, epoch, sending}
 use Rattle.run_rules.specs.Doings.Doing.{Admits, Flushes, MakesWant, Reserves, Sent, Took, WritesDown}
 use Rattle.run_rules.specs.HostAsks.{IsChangeNumber}

@@ -49,8 +49,8 @@ StandsAsWant journal host server body =
 
 -- each lock that a line asks for is of one byte at least: a script with one of no bytes isn't read
 abbrev pub LocksBytes : Script → Type 0
-LocksBytes script = (line : Line) (label : List ℕ) (place : Place) (writing : Bool) (from len : ℕ) → In line script.lines
-    → line.deed ≡ MakesCall (Lock label place writing from len) → 0 < len
+LocksBytes script = (line : Line) (label : List ℕ) (place : Place) (writing : Bool) (from len : ℕ)
+    → In line script.lines → line.deed ≡ MakesCall (Lock label place writing from len) → 0 < len
 
 -- Where all that was sent is over, no request of a host that is outstanding is without its want at its server, but of a
 -- host that has stopped.
