@@ -23,6 +23,7 @@ pub mod Done
 pub mod Queueing
 pub mod Numbering
 pub mod Requests
+pub mod Meaning
 pub mod Standing
 pub mod Unblocking
 pub mod Shutting

@@ -15,23 +15,24 @@ use Rattle.message_types.specs.declared.asking.Change.{Change as ChangeOf}
 use Rattle.message_types.specs.declared.giving.Reclaim.{Reclaim as ReclaimOf}
 use Rattle.message_types.specs.declared.giving.Reclaimed.{Reclaimed as ReclaimedOf}
 use Rattle.message_types.specs.declared.message.Body.{Body}
-use Rattle.message_types.specs.declared.message.Body.TheVariants.{Change, Done, Down, Reclaim, Reclaimed}
+use Rattle.message_types.specs.declared.message.Body.TheVariants.{Bye, Change, Done, Fetch, GiveBack, Hello, Reclaim}
+use Rattle.message_types.specs.declared.message.Body.TheVariants.{Reclaimed}
 use Rattle.message_types.specs.declared.message.Direction.TheVariants.{ToHost, ToServer}
 use Rattle.message_types.specs.declared.message.Message.{Message}
 use Rattle.message_types.specs.declared.telling.Done.{Done as DoneOf}
 use Rattle.message_types.specs.declared.telling.DoneIs.TheVariants.{Reply as HasReply}
-use Rattle.run_rules.specs.Doings.{Doing, GoesAway, HasGoneAway, HasReclaimed, IsLive, IsNewEpoch, SentNow, SentTo}
-use Rattle.run_rules.specs.Doings.{TakenNow, WasWritten, admitting, after_admitting, after_cause, after_deciding}
+use Rattle.run_rules.specs.Doings.{Doing, GoesAway, HasGoneAway, HasReclaimed, IsLive, IsNewEpoch, Listed, SentNow}
+use Rattle.run_rules.specs.Doings.{SentTo, TakenNow, WasWritten, admitting, after_admitting, after_cause, after_deciding}
 use Rattle.run_rules.specs.Doings.{after_sending, after_step, deciding, doings_of, epoch, sending}
 use Rattle.run_rules.specs.Doings.Doing.{Admits, BeginsEpoch, Flushes, MakesWant, Reserves, Sent, Took, WritesDown}
 use Rattle.run_rules.specs.HostAsks.{HasChanged, IsChangeNumber}
 use Rattle.run_rules.specs.HostDue.{HostDue, IsUnanswered}
 use Rattle.run_rules.specs.HostMay.{AwaitsReclaimed, HostMay}
 use Rattle.run_rules.specs.Kept.{filesets_after, filesets_kept, filesets_through}
-use Rattle.run_rules.specs.Messages.{Changing, Comes, HasGreeted, HasStopped, IsWelcome, Said, Sends, epoch_at}
+use Rattle.run_rules.specs.Messages.{Changing, Comes, HasGreeted, HasSaid, HasStopped, IsWelcome, Said, Sends, epoch_at}
 use Rattle.run_rules.specs.Past.{Always, In, Once, appended}
 use Rattle.run_rules.specs.Plans.{resender_by}
-use Rattle.run_rules.specs.Runs.{IsFrom, StepDue, StepMeets, StepsMeet}
+use Rattle.run_rules.specs.Runs.{IsFrom, StepDue, StepMeets, StepsMeet, firsts_of, past_of}
 use Rattle.run_rules.specs.ServerDecides.{IsNewRequest, MayDecide, MayDecideAll, by_cause, decisions, is_decision}
 use Rattle.run_rules.specs.ServerDue.{ServerDue}
 use Rattle.run_rules.specs.ServerMay.{HasWritten, IsLast, ServerMay}
@@ -50,22 +51,27 @@ use Rattle.run_rules.specs.declared.step.Cause.TheVariants.{End, Evict, Flushed,
 use Rattle.run_rules.specs.declared.step.Step.{Step}
 use Rattle.run_contents.proofs.Grants.{all_taken, same_decisions}
 use Rattle.run_history.proofs.Waiting.{fresh_now, still_changing}
+use Rattle.run_tokens.proofs.Invariant.{Alone}
 use Rattle.run_tokens.proofs.Law.{Whole}
 use Rattle.run_tokens.proofs.Words.{acts_after, epoch_grows, if_host, if_server, own_after}
-use Rattle.run_goes_on.proofs.Arriving.{due_at, from_cause, host_sends, meets_at, step_on, unanswered_at, whole_at}
+use Rattle.run_goes_on.proofs.Answering.{claims_are_answered}
+use Rattle.run_goes_on.proofs.Arriving.{Found, due_at, due_of, found, from_cause, from_one, host_sends, meets_at}
+use Rattle.run_goes_on.proofs.Arriving.{step_on, unanswered_at, whole_at}
 use Rattle.run_goes_on.proofs.Claiming.{IsOnList, acts_later, own_later}
 use Rattle.run_goes_on.proofs.Doings.{Knows, epoch_step, heard, knows, listed_said, reclaimed_by, sent_so}
-use Rattle.run_goes_on.proofs.Grown.{grows_on, sent_cause}
+use Rattle.run_goes_on.proofs.Gracing.{no_grace_period_stands}
+use Rattle.run_goes_on.proofs.Grown.{grows_on, listed_on, sent_cause}
 use Rattle.run_goes_on.proofs.Hailing.{on_list}
+use Rattle.run_goes_on.proofs.Meaning.{changes_are_meant_so}
 use Rattle.run_goes_on.proofs.Numbering.{numbers_below, done_said, written_answered, written_cause}
 use Rattle.run_goes_on.proofs.Positions.{Cut, always_back, cut, doings_on, host_steps, own_on, own_run, server_doings}
 use Rattle.run_goes_on.proofs.Queueing.{both_back, one_waits}
 use Rattle.run_goes_on.proofs.Requests.{GoesIn, IsAnswer, IsMeant, answer_ends, answer_goes, answer_resends}
 use Rattle.run_goes_on.proofs.Requests.{asked_here, body_is, decides_not, decides_sent, decides_written, goes_in}
 use Rattle.run_goes_on.proofs.Requests.{no_give, old_change, request_of, same_by, same_is, welcome_asks}
-use Rattle.run_goes_on.proofs.Staying.{SendsIt, WasSent, for_itself, goes_there, host_resends}
+use Rattle.run_goes_on.proofs.Staying.{SendsIt, WasSent, for_itself, goes_there, host_resends, was_sent}
 use Rattle.run_goes_on.proofs.Telling.{decide, learns_by, server_due, server_may, server_sends, still}
-use Rattle.run_goes_on.specs.Ended.{IsRequest, IsSame}
+use Rattle.run_goes_on.specs.Ended.{IsRequest, IsSame, RequestsStandAsWants}
 use Rattle.run_goes_on.specs.Rest.{AllIsOver, IsTakenIn, LapsesIn, NoneIsHeld}
 
 -- # Words
@@ -751,3 +757,140 @@ module _ (script : Script) (start : Tree) (firsts : ServerId → ℕ) (real : (v
             goes : GoesIn v b m.moves
             goes = subst (λ (k : ℕ). GoesIn v b k) (sym sends.4)
                 (goes_in script host (own past) s may_host v ep mv b asks sends)
+
+    -- so it has one at the end
+    carry : (l p : List Step) → IsAfter l p → HasOne (acts p) → HasOne (acts (appended l p))
+    carry [] p a has = has
+    carry (t ∷ l) p a has = carry l (t ∷ p) (next_at l p t a) (by t.node refl)
+      where
+        by : (k : Node) → t.node ≡ k → HasOne (acts_after v k t (acts p))
+        by (Host k) at = has
+        by (Server k) at =
+            if_server HasOne k v (after_step t (acts p)) (acts p)
+            (λ same. keep_step l p t a (at ∙ ap Server same) has) has
+
+    went : (m.host ≡ host) × (m.direction ≡ ToServer) × (LapsesIn later (Host host) ⊎ IsTakenIn later m)
+    went =
+        host_sends script start firsts real run meets due over none host live past later s e node m sends.1
+        (ap (λ (y : Body). resender_by y m) sends.5 ∙ host_resends (own run) v n b x m)
+
+    has_one : HasOne (acts run)
+    has_one = elim went.2 [
+      | inl lapses ↦ absurd (lapses_not later (s ∷ past) first_at lapses)
+      | inr taken ↦ by (cut later (s ∷ past) taken.0 taken.1) taken.2
+    ]
+      where
+        by : {t : Step} → Cut (s ∷ past) later t → t.cause ≡ Came m → HasOne (acts run)
+        by {t = t} c cause = go t.node refl (met c.after (t ∷ c.before) (c.whole ∙ e)).1.0
+          where
+            go : (k : Node) → t.node ≡ k → StepMeets script start firsts k c.before t → HasOne (acts run)
+            go (Host k) at m' = absurd (let z : ToServer ≡ ToHost = sym went.1 ∙ (m'.1 m cause).1 in cc)
+            go (Server k) at m' =
+                let is : t.node ≡ Server v = at ∙ ap Server (sym (m'.1 m cause).0 ∙ sends.2) in
+                let then_at = at_cut first_at c in
+                let now : m.epoch ≡ epoch (acts c.before) =
+                sends.3
+                ∙ (may_host.tokens.epochs v ep mv b sends
+                ∙ (sym (ap (λ (L : List Step). epoch_at L v) (host_steps host s past node))
+                ∙ sym (server_epoch (t ∷ c.after) c.before then_at))) in
+                subst (λ (L : List Step). HasOne (acts L)) then_at.whole
+                (carry c.after (t ∷ c.before) (next_at c.after c.before t then_at)
+                (subst HasOne (sym (server_doings (firsts v) v t c.before is))
+                (takes_it c.after c.before t then_at is cause went.0 now)))
+
+  -- it is so from each step on that says it, since the last one is such a step
+  pub stands : (fuel : ℕ) (past later : List Step) (s : Step) → length later < fuel → appended (s ∷ later) past ≡ run
+      → s.node ≡ Host host → SendsIt v b s
+      → ((w : Wanted) × IsQueued (acts run) w × (w.host ≡ host) × IsSame b w.request → ⊥) → ⊥
+  stands zero past later s lt e node sends lacks = absurd (omega (arith, lt))
+  stands (suc fuel) past later s lt e node (to, ep, mv, sends, is) lacks =
+      has_one past later s e node ep mv (subst (λ (u : ServerId). Sends s u ep mv b) there sends)
+      (λ p l t short whole at again. stands fuel p l t
+      (let y : length later < suc fuel = lt in omega (arith, short, y)) whole at again lacks) lacks
+    where
+      there : to ≡ v
+      there = goes_there script host (own past) s (host_may later past s e node) v to n ep mv b (own run) x sends is
+
+-- # At the end of a run
+
+-- a host that asks has said no Bye
+asks_still : (A : List Step) (v : ServerId) (n : ℕ) (b : Body) → IsRequest b → Alone A → IsUnanswered A v n b
+    → HasSaid A v Bye → ⊥
+asks_still A v n (Fetch f) asks alone x said = alone.bye_asking v f.fid.fileset f.number said x.1
+asks_still A v n (Change c) asks alone x said = alone.bye_changing v v c.fileset c.number said x.1
+asks_still A v n _ asks alone x said = elim asks [ ]
+
+-- what it asks was said
+asks_said : (A : List Step) (v : ServerId) (n : ℕ) (b : Body) → IsUnanswered A v n b → (c : ChangeOf) → b ≡ Change c
+    → (w : ServerId) × (e k : ℕ) × Said A w e k (Change c)
+asks_said A v n (Change d) x c is =
+    let has = x.0 in
+    (has.0, has.1, has.2, subst (λ (y : Body). Said A has.0 has.1 has.2 y) is has.3)
+asks_said A v n (Fetch f) x c is = absurd (let z : Fetch f ≡ Change c = is in cc)
+asks_said A v n (GiveBack g) x c is = absurd (let z : GiveBack g ≡ Change c = is in cc)
+asks_said A v n Hello x c is = absurd (let z : Hello ≡ Change c = is in cc)
+asks_said A v n Bye x c is = absurd (let z : Bye ≡ Change c = is in cc)
+asks_said A v n _ x c is = elim x [ ]
+
+pub requests_stand_as_wants : RequestsStandAsWants
+requests_stand_as_wants script journal q sound locks host live v n b asks x lacks =
+    stands script q.run.start firsts (λ u. from_one _) run q.run.steps dues q.over q.none_held host live v n b x asks
+    meant stays reclaims (claims_are_answered script journal q host live v stays) (suc (length f.after)) f.before
+    f.after f.step (omega arith) f.whole f.node f.here lacks
+  where
+    firsts : ServerId → ℕ
+    firsts = firsts_of journal
+
+    run : List Step
+    run = past_of journal
+
+    own_end : List Step
+    own_end = steps_of_host host (past_of journal)
+
+    dues : Always (λ before s. StepDue script q.run.start (firsts_of journal) s.node before s) (past_of journal)
+    dues = due_of script journal q.run q.dutiful
+
+    whole : Whole (λ h. steps_of_host h (past_of journal)) (λ u. doings_of (firsts_of journal u) u (past_of journal))
+    whole =
+        whole_at script q.run.start (firsts_of journal) (λ u. from_one _) (past_of journal) q.run.steps dues q.over
+        q.none_held [] (past_of journal) refl
+
+    meant : IsMeant b
+    meant c is =
+        let said = asks_said (steps_of_host host (past_of journal)) v n b x c is in
+        changes_are_meant_so script journal q.run sound locks host said.0 said.1 said.2 c said.3
+
+    stays : HasGoneAway (doings_of (firsts_of journal v) v (past_of journal)) host → ⊥
+    stays gone = elim (((whole.at v).link host).away gone) [
+      | inl stopped ↦ live stopped
+      | inr said ↦ asks_still (steps_of_host host (past_of journal)) v n b asks (whole.alone host) x said
+    ]
+
+    f : Found host (λ before s. SendsIt v b s) (past_of journal)
+    f = found host (λ before s. SendsIt v b s) journal.steps
+        (was_sent script host (steps_of_host host (past_of journal))
+        (own_run script q.run.start (firsts_of journal) (past_of journal) q.run.steps host) live v n b x)
+
+    may : HostMay script host (steps_of_host host f.before) f.step
+    may = (subst (λ (k : Node). StepMeets script q.run.start (firsts_of journal) k f.before f.step) f.node
+        (meets_at script q.run.start (firsts_of journal) (λ u. from_one _) (past_of journal) q.run.steps dues q.over
+        q.none_held f.after (f.step ∷ f.before) f.whole).1.0).0
+
+    listed : Listed (doings_of (firsts_of journal v) v (past_of journal)) host
+    listed =
+        let to = f.here.0 in
+        let there : to ≡ v =
+        goes_there script host (steps_of_host host f.before) f.step may v to n f.here.1 f.here.2 b
+        (steps_of_host host (past_of journal)) x f.here.3 f.here.4 in
+        let sends : Sends f.step v f.here.1 f.here.2 b =
+        subst (λ (u : ServerId). Sends f.step u f.here.1 f.here.2 b) there f.here.3 in
+        let on =
+        on_list script q.run.start (firsts_of journal) (λ u. from_one _) (past_of journal) q.run.steps dues host v
+        f.after (f.step ∷ f.before) f.whole
+        (subst (λ (L : List Step). IsWelcome L v) (sym (host_steps host f.step f.before f.node))
+        (welcome_asks script host (steps_of_host host f.before) f.step may v f.here.1 f.here.2 b asks sends)) in
+        subst (λ (L : List Step). Listed (doings_of (firsts_of journal v) v L) host) f.whole
+        (listed_on (firsts_of journal) v host f.after (f.step ∷ f.before) on.listed.0)
+
+    reclaims : HasReclaimed (doings_of (firsts_of journal v) v (past_of journal)) host
+    reclaims = no_grace_period_stands script journal q v host (listed, stays)
