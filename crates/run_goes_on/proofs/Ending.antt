@@ -44,7 +44,7 @@ use Rattle.run_goes_on.proofs.Hailing.{on_list}
 use Rattle.run_goes_on.proofs.Positions.{always_back, doings_on, own_run, steps_back}
 use Rattle.run_goes_on.proofs.Shutting.{no_calls_are_open}
 use Rattle.run_goes_on.proofs.Stopping.{down, down_away}
-use Rattle.run_goes_on.specs.Ended.{LocksBytes, NoMoveWaits, RequestsStandAsWants, RunsEnd}
+use Rattle.run_goes_on.specs.Ended.{LocksBytes, NoMoveWaits, RunsEnd}
 use Rattle.run_goes_on.specs.Rest.{RunRests}
 use Rattle.run_goes_on.specs.Resting.{NoneAwaits}
 use Rattle.run_goes_on.specs.Waiting.{IsQuiet}
@@ -168,7 +168,7 @@ module _ (script : Script) (v : ServerId) where
     lines_at_most (s ∷ p) due = line_at s.node p s due.1 (lines_at_most p due.0)
 
 -- # The run is ended
-module _ (stand : RequestsStandAsWants) (script : Script) (journal : Journal) (sound : IsSound script)
+module _ (script : Script) (journal : Journal) (sound : IsSound script)
     (locks : LocksBytes script) (q : IsQuiet script journal) (rests : RunRests script journal)
     (awaits : NoneAwaits script (past_of journal)) (still : NoMoveWaits journal) where
   abbrev run : List Step
@@ -189,7 +189,7 @@ module _ (stand : RequestsStandAsWants) (script : Script) (journal : Journal) (s
       inl stopped,
     )
     | inr live ↦ hosts_are_done script journal q rests awaits host part live
-        (no_calls_are_open stand script journal q rests still sound locks host live) done
+        (no_calls_are_open script journal q rests still sound locks host live) done
   ]
 
   setup_done : HostIsDone script setup run
@@ -271,9 +271,9 @@ module _ (stand : RequestsStandAsWants) (script : Script) (journal : Journal) (s
       | inr byes ↦ by_bye (byes v greeted)
     ]
 
-pub runs_end : RequestsStandAsWants → RunsEnd
-runs_end stand script journal sound locks q rests awaits still = record {
-  hosts = all_done stand script journal sound locks q rests awaits still;
-  lines = lines_done stand script journal sound locks q rests awaits still;
-  servers = λ v host part listed. gone stand script journal sound locks q rests awaits still v host listed part;
+pub runs_end : RunsEnd
+runs_end script journal sound locks q rests awaits still = record {
+  hosts = all_done script journal sound locks q rests awaits still;
+  lines = lines_done script journal sound locks q rests awaits still;
+  servers = λ v host part listed. gone script journal sound locks q rests awaits still v host listed part;
 }

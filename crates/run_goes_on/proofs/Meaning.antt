@@ -1,9 +1,8 @@
 -- Each Change that a host says is meant so that its server can answer it.
 use Rattle.std.proofs.Common.{Bool, Err, List, None, Ok, Option, Result, Some, [], ap, arith, false, if◌then◌else◌, inl}
-use Rattle.std.proofs.Common.{inr, refl, subst, suc, sym, true, zero, ℕ, ◌+◌, ◌<◌, ◌==◌, ◌∙◌, ◌∷◌, ◌≡◌, ◌⊎◌}
+use Rattle.std.proofs.Common.{inr, refl, subst, suc, sym, true, zero, ℕ, ◌+◌, ◌<◌, ◌==◌, ◌∙◌, ◌∷◌, ◌≡◌}
 use Rattle.std.proofs.lemmas.Bool.{and_parts, eqb-true}
 use Rattle.std.specs.Prelude.{filter, is_some, nat_eq, nat_le, slice_get}
-use Rattle.std.specs.List.{list_all}
 use Rattle.base_types.specs.Outcomes.{either}
 use Rattle.base_types.specs.declared.ids.Fid.{Fid}
 use Rattle.base_types.specs.declared.ids.FilesetId.{FilesetId}
@@ -19,20 +18,18 @@ use Rattle.token_types.specs.declared.token.Kind.TheVariants.{Bytes, Lock as Loc
 use Rattle.tree_answers.specs.Locks.{has_lock, lock_count}
 use Rattle.tree_answers.specs.Opens.{has_open, open_count}
 use Rattle.tree_calls.specs.declared.call.Call.{Call}
-use Rattle.tree_calls.specs.declared.call.Call.TheVariants.{Lock, NewFileset, OpenFile}
-use Rattle.tree_calls.specs.declared.place.Place.{Place}
+use Rattle.tree_calls.specs.declared.call.Call.TheVariants.{Lock, OpenFile}
 use Rattle.tree_calls.specs.declared.reply.Refusal.{Refusal}
 use Rattle.tree_calls.specs.declared.reply.Reply.TheVariants.{Refused}
 use Rattle.tree_filesets.specs.Rights.{read_right, write_right}
 use Rattle.tree_filesets.specs.Uses.{is_changing, right_to_open}
 use Rattle.tree_objects.specs.Spans.{span_between}
-use Rattle.script_lines.specs.Sound.{IsSound, is_setup_call, is_setup_line, makes_fileset, same_node}
+use Rattle.script_lines.specs.Sound.{IsSound, is_setup_call, is_setup_line, same_node}
 use Rattle.script_lines.specs.declared.script.Deed.{Deed}
 use Rattle.script_lines.specs.declared.script.Deed.TheVariants.{Await, Call as MakesCall, Raise, Restart as Restarts}
 use Rattle.script_lines.specs.declared.script.Deed.TheVariants.{Stop}
 use Rattle.script_lines.specs.declared.script.Line.{Line}
 use Rattle.script_lines.specs.declared.script.Script.{Script}
-use Rattle.message_types.specs.Soundness.{no_fid}
 use Rattle.message_types.specs.declared.asking.Change.{Change as ChangeOf}
 use Rattle.message_types.specs.declared.message.Body.TheVariants.{Change}
 use Rattle.need_host.proofs.Rows.{outcome_judged}
@@ -41,7 +38,7 @@ use Rattle.need_host.specs.Calls.{open_look, refuse}
 use Rattle.need_host.specs.Calls.Verdict.{Asks, Locks, Opens, Replies}
 use Rattle.need_host.specs.Looks.{Look, View, checked, outcome}
 use Rattle.need_host.specs.Questions.{Question, fileset_of, numbered_under}
-use Rattle.need_host.specs.Questions.Question.{ChangeAt, ChangeIn, EnterAt}
+use Rattle.need_host.specs.Questions.Question.{EnterAt}
 use Rattle.need_host.specs.Walks.{root_of, use_look}
 use Rattle.run_rules.specs.HostAsks.{IsNewChange}
 use Rattle.run_rules.specs.HostMay.{DoesLine, HostMay}
@@ -49,13 +46,11 @@ use Rattle.run_rules.specs.Messages.{Said}
 use Rattle.run_rules.specs.Past.{Always, In}
 use Rattle.run_rules.specs.Runs.{IsRun, firsts_of, past_of}
 use Rattle.run_rules.specs.ServerDecides.{IsMeantSo}
-use Rattle.run_rules.specs.Steps.{bare, is_node, lines_of, servers_of, steps_of_host}
-use Rattle.run_rules.specs.Tokens.{BeginsCall, IsOpen, end_call, end_of}
-use Rattle.run_rules.specs.Views.{verdict_in}
+use Rattle.run_rules.specs.Steps.{is_node, lines_of, servers_of, steps_of_host}
+use Rattle.run_rules.specs.Tokens.{IsOpen, end_call}
 use Rattle.run_rules.specs.Wants.{is_use, locks_nothing}
 use Rattle.run_rules.specs.declared.journal.Journal.{Journal}
 use Rattle.run_rules.specs.declared.step.Asked.{Asked}
-use Rattle.run_rules.specs.declared.step.Cause.TheVariants.{End}
 use Rattle.run_rules.specs.declared.step.Labelled.{Labelled}
 use Rattle.run_rules.specs.declared.step.Step.{Step}
 use Rattle.run_examples.proofs.Tests.{at_all, from_filter}
@@ -120,18 +115,22 @@ open_asks view user root path kind q e =
 use_asks : (view : View) (own : Own) (host : HostId) (user : User) (call : Call) (q : Question) → is_use call ≡ true
     → outcome view (call_look own host user call) ≡ Asks q → (server : ServerId) × (q ≡ EnterAt server)
 unfolding call_look
-use_asks view own host user (Lock label place writing from len) q uses e =
-    (place.server, asks_enter view place.server (own.seen place.server place.fileset)
-    (λ root. lock_look own host user root place.path writing from len) q
-    (λ id k. lock_asks view own host user (root_of id) place.path writing from len q k)
-    (refused_or view (nat_le LABELS_MAX (lock_count own.locks host)) _ _ q
-    (refused_or view (has_lock own.locks host label) _ _ q e)))
-use_asks view own host user (OpenFile label place kind) q uses e =
-    (place.server, asks_enter view place.server (own.seen place.server place.fileset)
-    (λ root. open_look user root place.path kind) q
-    (λ id k. open_asks view user (root_of id) place.path kind q k)
-    (refused_or view (nat_le LABELS_MAX (open_count own.opens host)) _ _ q
-    (refused_or view (has_open own.opens host label) _ _ q e)))
+use_asks view own host user (Lock label place writing from len) q uses e = (
+  place.server,
+  asks_enter view place.server (own.seen place.server place.fileset)
+      (λ root. lock_look own host user root place.path writing from len) q
+      (λ id k. lock_asks view own host user (root_of id) place.path writing from len q k)
+      (refused_or view (nat_le LABELS_MAX (lock_count own.locks host)) _ _ q
+      (refused_or view (has_lock own.locks host label) _ _ q e)),
+)
+use_asks view own host user (OpenFile label place kind) q uses e = (
+  place.server,
+  asks_enter view place.server (own.seen place.server place.fileset)
+      (λ root. open_look user root place.path kind) q
+      (λ id k. open_asks view user (root_of id) place.path kind q k)
+      (refused_or view (nat_le LABELS_MAX (open_count own.opens host)) _ _ q
+      (refused_or view (has_open own.opens host label) _ _ q e)),
+)
 use_asks view own host user _ q uses e = absurd (let z : false ≡ true = uses in cc)
 
 module _ (script : Script) (host : HostId) where

@@ -13,15 +13,15 @@ use Rattle.message_types.specs.declared.message.Body.{Body}
 use Rattle.message_types.specs.declared.message.Body.TheVariants.{Change, Done}
 use Rattle.message_types.specs.declared.message.Message.{Message}
 use Rattle.message_types.specs.declared.telling.Done.{Done as DoneOf}
-use Rattle.run_rules.specs.Doings.{Doing, SentNow, SentTo, TakenNow, WasWritten, admitting, after_admitting, after_cause}
+use Rattle.run_rules.specs.Doings.{Doing, SentTo, TakenNow, WasWritten, admitting, after_admitting, after_cause}
 use Rattle.run_rules.specs.Doings.{after_deciding, after_step, deciding, doings_of, epoch, sending}
 use Rattle.run_rules.specs.Doings.Doing.{Admits, BeginsEpoch, Flushes, MakesWant, Reserves, Sent, Took, WritesDown}
-use Rattle.run_rules.specs.HostAsks.{HasChanged, IsChangeNumber, IsNextNumber}
+use Rattle.run_rules.specs.HostAsks.{IsChangeNumber, IsNextNumber}
 use Rattle.run_rules.specs.HostMay.{HostMay}
 use Rattle.run_rules.specs.Messages.{Changing, ComesIn, DoneComes, Said, Sends, epoch_at, home}
-use Rattle.run_rules.specs.Past.{Always, EachInTurn, In, Once, appended}
+use Rattle.run_rules.specs.Past.{Always, EachInTurn, In, appended}
 use Rattle.run_rules.specs.Runs.{CameToHost, CameToServer, StepDue, StepMeets, StepsMeet}
-use Rattle.run_rules.specs.ServerDue.{HasSent, IsOfChange, ServerDue}
+use Rattle.run_rules.specs.ServerDue.{IsOfChange, ServerDue}
 use Rattle.run_rules.specs.ServerMay.{MaySend}
 use Rattle.run_rules.specs.Steps.{steps_of_host, steps_of_server}
 use Rattle.run_rules.specs.Wants.{IsQueued, body_of}
@@ -39,7 +39,7 @@ use Rattle.run_rules.specs.declared.step.Step.{Step}
 use Rattle.run_contents.proofs.Grants.{all_taken}
 use Rattle.run_examples.proofs.Words.{moved}
 use Rattle.run_history.proofs.Waiting.{zero_home, zero_silent}
-use Rattle.run_tokens.proofs.Law.{Whole, always}
+use Rattle.run_tokens.proofs.Law.{always}
 use Rattle.run_tokens.proofs.TokenRun.{token_run}
 use Rattle.run_tokens.proofs.Words.{acts_after, if_host, if_server, own_after}
 use Rattle.run_goes_on.proofs.Arriving.{step_on}
@@ -360,9 +360,9 @@ module _ (script : Script) (start : Tree) (firsts : ServerId → ℕ) (real : (v
         | inr k ↦ (
             let u = home done.fileset in
             above u (λ z. absurd (
-              let said = sent_by u 0 k in
-              zero_silent script start firsts real past run u
-              (zero_home script start firsts real done.fileset (ap (λ (x : FilesetId). x.0) files ∙ z)) host said.0 said.1 (Done done) said.2
+            let said = sent_by u 0 k in
+            zero_silent script start firsts real past run u
+            (zero_home script start firsts real done.fileset (ap (λ (x : FilesetId). x.0) files ∙ z)) host said.0 said.1 (Done done) said.2
             )) (sent_by u 0 k)
             )
       ]

@@ -1,7 +1,6 @@
 -- The wants of a server: each is made when it doesn't wait, and no two wait that can't. So of those that wait one is the
 -- first.
-use Rattle.std.proofs.Common.{List, [], ap, inl, inr, refl, subst, suc, sym, ℕ, ◌∙◌, ◌∷◌, ◌≡◌, ◌⊎◌}
-use Rattle.base_types.specs.declared.ids.HostId.{HostId}
+use Rattle.std.proofs.Common.{List, [], ap, inl, inr, refl, subst, suc, sym, ℕ, ◌∙◌, ◌∷◌, ◌≡◌}
 use Rattle.base_types.specs.declared.ids.Node.{Node}
 use Rattle.base_types.specs.declared.ids.Node.TheVariants.{Host, Server}
 use Rattle.base_types.specs.declared.ids.ServerId.{ServerId}

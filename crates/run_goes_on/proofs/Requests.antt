@@ -23,9 +23,7 @@ use Rattle.run_rules.specs.ServerMay.{ServerMay}
 use Rattle.run_rules.specs.Wants.{CannotBothWait, Decides, IsOld, body_of}
 use Rattle.run_rules.specs.declared.applied.Request.{Request}
 use Rattle.run_rules.specs.declared.applied.Request.TheVariants.{Change as Changes, Fetch as Asks}
-use Rattle.run_rules.specs.declared.applied.Wanted.{Wanted}
 use Rattle.run_rules.specs.declared.applied.Written.{Written}
-use Rattle.run_rules.specs.declared.step.Cause.{Cause}
 use Rattle.run_rules.specs.declared.step.Cause.TheVariants.{Message as Came}
 use Rattle.run_rules.specs.declared.step.Step.{Step}
 use Rattle.run_goes_on.proofs.Doings.{sent_so}

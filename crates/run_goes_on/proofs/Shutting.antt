@@ -16,14 +16,15 @@ use Rattle.run_tokens.proofs.Law.{Whole}
 use Rattle.run_goes_on.proofs.Arriving.{due_of, from_one, whole_at}
 use Rattle.run_goes_on.proofs.Calling.{welcome_of_bye}
 use Rattle.run_goes_on.proofs.Resting.{open_calls_stand_at_servers}
+use Rattle.run_goes_on.proofs.Standing.{requests_stand_as_wants}
 use Rattle.run_goes_on.proofs.Unblocking.{no_wants_wait}
 use Rattle.run_goes_on.proofs.Welcoming.{greetings_are_answered}
-use Rattle.run_goes_on.specs.Ended.{LocksBytes, NoCallsAreOpen, NoMoveWaits, RequestsStandAsWants}
+use Rattle.run_goes_on.specs.Ended.{LocksBytes, NoCallsAreOpen, NoMoveWaits}
 use Rattle.run_goes_on.specs.Rest.{RunRests}
 use Rattle.run_goes_on.specs.Resting.{IsAsked}
 use Rattle.run_goes_on.specs.Waiting.{IsQuiet}
 
-module _ (stand : RequestsStandAsWants) (script : Script) (journal : Journal) (q : IsQuiet script journal)
+module _ (script : Script) (journal : Journal) (q : IsQuiet script journal)
     (rests : RunRests script journal) (still : NoMoveWaits journal) (sound : IsSound script)
     (locks : LocksBytes script) (host : HostId) (live : HasStopped (steps_of_host host (past_of journal)) → ⊥) where
   -- a host whose greeting waits hasn't gone away there
@@ -44,14 +45,14 @@ module _ (stand : RequestsStandAsWants) (script : Script) (journal : Journal) (q
       → IsUnanswered (steps_of_host host (past_of journal)) v n b → ⊥
   none_stands v n Hello is x = greetings_are_answered script journal q host live v n (stays v n x) x
   none_stands v n (Fetch f) is x =
-      stand script journal q sound locks host live v n (Fetch f) tt x
+      requests_stand_as_wants script journal q sound locks host live v n (Fetch f) tt x
       (λ w. no_wants_wait script journal q rests still v w.0 w.1)
   none_stands v n (Change c) is x =
-      stand script journal q sound locks host live v n (Change c) tt x
+      requests_stand_as_wants script journal q sound locks host live v n (Change c) tt x
       (λ w. no_wants_wait script journal q rests still v w.0 w.1)
   none_stands v n _ is x = elim is [ ]
 
-pub no_calls_are_open : RequestsStandAsWants → NoCallsAreOpen
-no_calls_are_open stand script journal q rests still sound locks host live call o =
+pub no_calls_are_open : NoCallsAreOpen
+no_calls_are_open script journal q rests still sound locks host live call o =
     let k = open_calls_stand_at_servers script journal q host call live o in
-    none_stands stand script journal q rests still sound locks host live k.server k.moves k.body k.asked k.unanswered
+    none_stands script journal q rests still sound locks host live k.server k.moves k.body k.asked k.unanswered

@@ -1,6 +1,6 @@
 -- Where all that was sent is over, a request that is outstanding waits as a want at its server: it is taken in the last
 -- epoch after its host has said it last, and no answer goes, since one would come.
-use Rattle.std.proofs.Common.{List, [], ap, arith, inl, inr, length, refl, subst, suc, sym, true, zero, ℕ}
+use Rattle.std.proofs.Common.{List, [], ap, arith, inl, inr, length, refl, subst, suc, sym, zero, ℕ}
 use Rattle.std.proofs.Common.{◌<◌, ◌∙◌, ◌∷◌, ◌≡◌, ◌≤◌, ◌⊎◌}
 use Rattle.base_types.specs.declared.ids.FilesetId.{FilesetId}
 use Rattle.base_types.specs.declared.ids.HostId.{HostId}
@@ -8,11 +8,9 @@ use Rattle.base_types.specs.declared.ids.Node.{Node}
 use Rattle.base_types.specs.declared.ids.Node.TheVariants.{Host, Server}
 use Rattle.base_types.specs.declared.ids.ServerId.{ServerId}
 use Rattle.tree_answers.specs.declared.tree.Tree.{Tree}
-use Rattle.tree_calls.specs.declared.reply.Reply.{Reply}
 use Rattle.script_lines.specs.declared.script.Script.{Script}
 use Rattle.message_types.specs.Soundness.{no_fid}
 use Rattle.message_types.specs.declared.asking.Change.{Change as ChangeOf}
-use Rattle.message_types.specs.declared.giving.Reclaim.{Reclaim as ReclaimOf}
 use Rattle.message_types.specs.declared.giving.Reclaimed.{Reclaimed as ReclaimedOf}
 use Rattle.message_types.specs.declared.message.Body.{Body}
 use Rattle.message_types.specs.declared.message.Body.TheVariants.{Bye, Change, Done, Fetch, GiveBack, Hello, Reclaim}
@@ -24,20 +22,20 @@ use Rattle.message_types.specs.declared.telling.DoneIs.TheVariants.{Reply as Has
 use Rattle.run_rules.specs.Doings.{Doing, GoesAway, HasGoneAway, HasReclaimed, IsLive, IsNewEpoch, Listed, SentNow}
 use Rattle.run_rules.specs.Doings.{SentTo, TakenNow, WasWritten, admitting, after_admitting, after_cause, after_deciding}
 use Rattle.run_rules.specs.Doings.{after_sending, after_step, deciding, doings_of, epoch, sending}
-use Rattle.run_rules.specs.Doings.Doing.{Admits, BeginsEpoch, Flushes, MakesWant, Reserves, Sent, Took, WritesDown}
-use Rattle.run_rules.specs.HostAsks.{HasChanged, IsChangeNumber}
+use Rattle.run_rules.specs.Doings.Doing.{Admits, Flushes, MakesWant, Reserves, Sent, Took, WritesDown}
+use Rattle.run_rules.specs.HostAsks.{IsChangeNumber}
 use Rattle.run_rules.specs.HostDue.{HostDue, IsUnanswered}
 use Rattle.run_rules.specs.HostMay.{AwaitsReclaimed, HostMay}
 use Rattle.run_rules.specs.Kept.{filesets_after, filesets_kept, filesets_through}
 use Rattle.run_rules.specs.Messages.{Changing, Comes, HasGreeted, HasSaid, HasStopped, IsWelcome, Said, Sends, epoch_at}
-use Rattle.run_rules.specs.Past.{Always, In, Once, appended}
+use Rattle.run_rules.specs.Past.{Always, In, appended}
 use Rattle.run_rules.specs.Plans.{resender_by}
 use Rattle.run_rules.specs.Runs.{IsFrom, StepDue, StepMeets, StepsMeet, firsts_of, past_of}
-use Rattle.run_rules.specs.ServerDecides.{IsNewRequest, MayDecide, MayDecideAll, by_cause, decisions, is_decision}
+use Rattle.run_rules.specs.ServerDecides.{MayDecide, MayDecideAll, by_cause, decisions}
 use Rattle.run_rules.specs.ServerDue.{ServerDue}
-use Rattle.run_rules.specs.ServerMay.{HasWritten, IsLast, ServerMay}
+use Rattle.run_rules.specs.ServerMay.{HasWritten, ServerMay}
 use Rattle.run_rules.specs.Steps.{steps_of_host, steps_of_server}
-use Rattle.run_rules.specs.Wants.{CannotBothWait, Decides, IsOld, IsQueued, Unwants, body_of}
+use Rattle.run_rules.specs.Wants.{CannotBothWait, IsOld, IsQueued, Unwants, body_of}
 use Rattle.run_rules.specs.declared.applied.Admission.{Admission}
 use Rattle.run_rules.specs.declared.applied.Applied.{Applied}
 use Rattle.run_rules.specs.declared.applied.Applied.TheVariants.{Done as IsDone, IsDown, Replied, Stored}
@@ -58,7 +56,7 @@ use Rattle.run_goes_on.proofs.Answering.{claims_are_answered}
 use Rattle.run_goes_on.proofs.Arriving.{Found, due_at, due_of, found, from_cause, from_one, host_sends, meets_at}
 use Rattle.run_goes_on.proofs.Arriving.{step_on, unanswered_at, whole_at}
 use Rattle.run_goes_on.proofs.Claiming.{IsOnList, acts_later, own_later}
-use Rattle.run_goes_on.proofs.Doings.{Knows, epoch_step, heard, knows, listed_said, reclaimed_by, sent_so}
+use Rattle.run_goes_on.proofs.Doings.{epoch_step, heard, knows, listed_said, reclaimed_by, sent_so}
 use Rattle.run_goes_on.proofs.Gracing.{no_grace_period_stands}
 use Rattle.run_goes_on.proofs.Grown.{grows_on, listed_on, sent_cause}
 use Rattle.run_goes_on.proofs.Hailing.{on_list}
@@ -70,7 +68,7 @@ use Rattle.run_goes_on.proofs.Requests.{GoesIn, IsAnswer, IsMeant, answer_ends, 
 use Rattle.run_goes_on.proofs.Requests.{asked_here, body_is, decides_not, decides_sent, decides_written, goes_in}
 use Rattle.run_goes_on.proofs.Requests.{no_give, old_change, request_of, same_by, same_is, welcome_asks}
 use Rattle.run_goes_on.proofs.Staying.{SendsIt, WasSent, for_itself, goes_there, host_resends, was_sent}
-use Rattle.run_goes_on.proofs.Telling.{decide, learns_by, server_due, server_may, server_sends, still}
+use Rattle.run_goes_on.proofs.Telling.{decide, learns_by, server_due, server_may, server_sends}
 use Rattle.run_goes_on.specs.Ended.{IsRequest, IsSame, RequestsStandAsWants}
 use Rattle.run_goes_on.specs.Rest.{AllIsOver, IsTakenIn, LapsesIn, NoneIsHeld}
 
@@ -749,8 +747,13 @@ module _ (script : Script) (start : Tree) (firsts : ServerId → ℕ) (real : (v
               here = asked_here v S m.moves b asks meant goes;
               fresh = fresh;
               alone = λ w q h both. from_caused
-                  (λ j. j (w, q, h, same_by b asks w.request both
-                  (λ c d is r files. same_number c is w d q h r files))) lacks;
+                  (λ j. j (
+                    w,
+                    q,
+                    h,
+                    same_by b asks w.request both
+                        (λ c d is r files. same_number c is w d q h r files),
+                  )) lacks;
             }) in
             from_made made.0 made.1 made.2 (subst (IsSame b) (sym made.3) (same_is b asks)) lacks
           where
