@@ -29,3 +29,4 @@ pub mod Unblocking
 pub mod Shutting
 pub mod Closing
 pub mod Ending
+pub mod Rested

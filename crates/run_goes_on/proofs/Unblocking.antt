@@ -70,7 +70,7 @@ module _ (script : Script) (start : Tree) (firsts : ServerId → ℕ) (v : Serve
       if_server (λ (S : List Doing). IsQueued S w → TakesPart script (Server v)) k v (after_step s (acts past))
       (acts past) (λ e waits. subst (λ (u : ServerId). TakesPart script (Server u)) e part) old
 
-  takes_part : (past : List Step) → StepsMeet script start firsts past → (w : Wanted) → IsQueued (acts past) w
+  pub takes_part : (past : List Step) → StepsMeet script start firsts past → (w : Wanted) → IsQueued (acts past) w
       → TakesPart script (Server v)
   takes_part [] run w (inl made) = absurd (let z : BeginsEpoch (firsts v) ≡ MakesWant w = made in cc)
   takes_part [] run w (inr old) = elim old.0 [ ]

@@ -103,10 +103,9 @@ pub record ServerRests (server : ServerId) (past : List Doing) : Type 0 where
   pub decided : (w : Wanted) → IsQueued past w → CanDecide server past w
       → (change : ChangeOf) × (w.request ≡ Changes change) × (moves_fileset change.call ≡ true)
 
--- # The run rests: nothing more can happen
+-- # The run rests: no node does anything more by itself
 
 pub record RunRests (script : Script) (journal : Journal) : Type 0 where
-  pub over : AllIsOver script (past_of journal)
   pub lines : (node : Node) (line : Line) → TakesPart script node
       → LineCanGo script (past_of journal) (filter (λ s. is_node s.node node) (past_of journal)) node line → ⊥
   pub evictions : (host : HostId) → TakesPart script (Host host)
