@@ -202,10 +202,13 @@ module _ (server : ServerId) (past : List Doing) (s : Step) where
           let b = list_any (λ (c : Admission). same_host c.host k.host) s.admitted in
           let p = subst (λ b. reclaimed_only past s k b ≡ true) is (at_all
           (λ k. reclaimed_only past s k k.body) s.sent k t.1.1.1.1.1.1.1.0 i) in
-          elim (or_cases (a && not (down past k.host)) b p) [
-            | inl x ↦ (let q = and_parts a (not (down past k.host)) x in inl (
+          let u = not (down past k.host) in
+          let v = not (live past k.host) in
+          elim (or_cases (a && (u && v)) b p) [
+            | inl x ↦ (let q = and_parts a (u && v) x in let w = and_parts u v q.1 in inl (
               subst (λ y. HeardNow s y Hello) at (came_hello k.host s.cause refl q.0),
-              λ z. is_not (down past k.host) q.1 (down_is past k.host (subst (λ y. HasGoneDown past y) (sym at) z)),
+              (λ z. is_not (down past k.host) w.0 (down_is past k.host (subst (λ y. HasGoneDown past y) (sym at) z))),
+              inl (λ z. is_not (live past k.host) w.1 (live_is past k.host (subst (λ y. IsLive past y) (sym at) z))),
             ))
             | inr x ↦ (let c = some_in (λ (c : Admission). same_host c.host k.host) s.admitted x in
                 inr (inl (c.0, c.1, host_is c.0.host k.host c.2 ∙ at)))

@@ -1,13 +1,14 @@
 -- Why the odd steps are refused.
-use Rattle.std.proofs.Common.{[], ◌∷◌, ◌<◌, ℕ, Bool, List, false, inl, inr, refl, suc, sym, zero, true, ◌≡◌, ◌∙◌}
+use Rattle.std.proofs.Common.{[], ◌∷◌, ◌<◌, ℕ, Bool, List, ap, false, inl, inr, refl, suc, sym, zero, true, ◌≡◌, ◌∙◌}
 use Rattle.std.proofs.Math.Dec.{eqb-suc-zero}
 use Rattle.base_types.specs.declared.ids.HostId.{HostId}
 use Rattle.base_types.specs.declared.ids.ServerId.{ServerId}
 use Rattle.tree_calls.specs.declared.call.Call.TheVariants.{Lock}
 use Rattle.message_types.specs.declared.asking.Change.{Change as ChangeOf}
-use Rattle.message_types.specs.declared.message.Body.TheVariants.{Hello, Change}
+use Rattle.message_types.specs.declared.message.Body.TheVariants.{Hello, Change, Reclaim, Restarted}
 use Rattle.message_types.specs.declared.message.Message.{Message}
-use Rattle.run_rules.specs.Doings.{Doing, doings_of}
+use Rattle.run_rules.specs.Doings.{Doing, Enlists, Hears, IsLive, ListedNow, doings_of}
+use Rattle.run_rules.specs.Doings.Doing.{BeginsEpoch, Reserves, Sent}
 use Rattle.run_rules.specs.HostDue.{HostDue}
 use Rattle.run_rules.specs.HostMay.{HostMay}
 use Rattle.run_rules.specs.Messages.{HasGreeted, IsWelcome}
@@ -17,14 +18,16 @@ use Rattle.run_rules.specs.Wants.{locks_nothing}
 use Rattle.run_rules.specs.declared.applied.Request.TheVariants.{Change as Changes}
 use Rattle.run_rules.specs.declared.step.Cause.TheVariants.{Message as Came, Lapse}
 use Rattle.run_rules.specs.declared.step.Step.{Step}
-use Rattle.run_tokens.specs.Worked.{client, enter, site_one, to_host, to_server, welcome}
+use Rattle.run_tokens.specs.Worked.{client, enter, from_server, site_one, to_host, to_server, welcome, welcomes}
 use Rattle.message_types.specs.declared.message.Body.TheVariants.{Reclaimed}
-use Rattle.run_examples.specs.Laws.{Does, writing}
+use Rattle.run_examples.specs.Laws.{Does, restarting, writing}
 use Rattle.run_examples.specs.Refused.{LocksBytes, OddSteps, asks_ungreeted, gives_length, greets_twice, looking}
-use Rattle.run_examples.specs.Refused.{no_tokens, tells_unasked, unasked}
+use Rattle.run_examples.specs.Refused.{no_tokens, restarted, tells_unasked, unasked, welcomes_old}
 use Rattle.run_examples.specs.Steps.{file_tree, grown}
 use Rattle.run_examples.proofs.Examples.{computed}
 use Rattle.run_examples.proofs.HostChecks.{host_does}
+use Rattle.run_examples.proofs.ServerWords.{away, down, goes_away, listed, live, live_yes, takes_bye, takes_down}
+use Rattle.run_examples.proofs.ServerWords.{takes_hello}
 use Rattle.run_tokens.specs.JournalWorked.{owner}
 
 heard : Does looking client [] unasked
@@ -37,6 +40,41 @@ not_told may = elim (may.answers.reclaimed_only client welcome (to_host (Reclaim
   | inr (inl x) ↦ elim x.1 [ ]
   | inr (inr x) ↦ let p : Lapse ≡ Came x.2.0.0 = x.2.0.1 in cc
 ]
+
+-- the host is live, and came on the list before the server restarted
+abbrev past_then : List Doing
+past_then = doings_of 1 site_one restarted
+
+lives : IsLive past_then client
+unfolding takes_down takes_hello down listed takes_bye goes_away away live
+lives = live_yes past_then client refl
+
+no_greeting : (past : List Doing) (a : Doing) → (Hears a client Hello → ⊥) → Enlists past a client → ⊥
+no_greeting past a none (l, new) = elim l [ inl p ↦ none p.0 | inr p ↦ new p ]
+
+abbrev begun : List Doing
+begun = BeginsEpoch 2 ∷ doings_of 1 site_one (welcomes ∷ [])
+
+abbrev told : List Doing
+told = Sent client 2 0 Restarted ∷ begun
+
+not_now : ListedNow past_then client → ⊥
+not_now (inl e) = no_greeting told (Reserves []) (λ p. let q = p.2 in cc) e
+not_now (inr (inl e, b)) = no_greeting begun (Sent client 2 0 Restarted) (λ p. let q = p.2 in cc) e
+not_now (inr (inr (inl e, c), b)) =
+    no_greeting (doings_of 1 site_one (welcomes ∷ [])) (BeginsEpoch 2) (λ p. let q = p.2 in cc) e
+not_now (inr (inr (inr (l, d), c), b)) = d (2, refl)
+
+not_old : ServerMay restarting file_tree site_one restarted past_then welcomes_old → ⊥
+not_old may = elim (may.answers.reclaimed_only client welcome
+    (from_server (Reclaimed welcome), inr (inl refl), refl, refl)) [
+      | inl x ↦ elim x.2 [ inl l ↦ l lives | inr l ↦ not_now l ]
+      | inr (inl x) ↦ elim x.1 [ ]
+      | inr (inr x) ↦ let is : Hello ≡ Reclaim x.1 = ap (λ (m : Message). m.body) (came_is _ _ x.2.0.1) ∙ x.2.0.5 in cc
+    ]
+  where
+    came_is : (m n : Message) → Came m ≡ Came n → m ≡ n
+    came_is m n e = cc
 
 none_said : (v : ServerId) → HasGreeted (unasked ∷ []) v → ⊥
 none_said v (e, n, inl (m, is, sv, ev, nv, body)) = elim is [ ]
@@ -76,6 +114,7 @@ is_meant change (suc len) (label, place, writing, from, is) more out named =
 pub odd_steps : OddSteps
 odd_steps = record {
   told = not_told;
+  old = not_old;
   heard = heard;
   asks = not_asked;
   greets = not_twice;

@@ -82,7 +82,8 @@ gone_only past cause k _ = true
 
 unfoldable pub reclaimed_by : List Doing → Cause → Message → Bool
 reclaimed_by past cause k =
-    by_message false (λ m. is_hello m.body && same_host m.host k.host) cause && not (down past k.host)
+    by_message false (λ m. is_hello m.body && same_host m.host k.host) cause
+    && (not (down past k.host) && not (live past k.host))
 
 unfoldable pub bye_only : List Doing → Cause → Message → Bool
 bye_only past cause k =

@@ -7,7 +7,7 @@ use Rattle.tree_calls.specs.declared.call.Call.TheVariants.{Lock}
 use Rattle.tree_calls.specs.declared.place.Place.{Place}
 use Rattle.message_types.specs.declared.asking.Change.{Change as ChangeOf}
 use Rattle.message_types.specs.declared.giving.Give.{Give}
-use Rattle.message_types.specs.declared.message.Body.TheVariants.{Hello, Change, Done, GiveBack, Reclaimed}
+use Rattle.message_types.specs.declared.message.Body.TheVariants.{Hello, Change, Done, GiveBack, Reclaimed, Restarted}
 use Rattle.script_lines.specs.declared.script.Deed.TheVariants.{Call as MakesCall}
 use Rattle.script_lines.specs.declared.script.Script.{Script}
 use Rattle.run_rules.specs.Doings.{Doing, doings_of as acts_of}
@@ -18,8 +18,9 @@ use Rattle.run_rules.specs.ServerMay.{ServerMay}
 use Rattle.run_rules.specs.declared.applied.Request.TheVariants.{Change as Changes}
 use Rattle.run_rules.specs.declared.step.Cause.TheVariants.{Line as LineOf, Message as Came, Lapse}
 use Rattle.run_rules.specs.declared.step.Step.{Step}
-use Rattle.run_tokens.specs.Worked.{client, site_one, serves, to_host, to_server, welcome, stat, enter, entered}
-use Rattle.run_examples.specs.Laws.{Does, writing}
+use Rattle.run_tokens.specs.Worked.{client, enter, entered, from_server, restarts, serves, site_one, stat, to_host}
+use Rattle.run_tokens.specs.Worked.{to_server, welcome, welcomes}
+use Rattle.run_examples.specs.Laws.{Does, restarting, writing}
 use Rattle.run_examples.specs.Steps.{acts, hears, script_of, grown, file, file_tree}
 
 -- a script of one line, the status of a root
@@ -52,17 +53,28 @@ gives_length = acts (Came (to_host (Done entered))) None [] [] None [] (no_token
 abbrev pub tells_unasked : Step
 tells_unasked = serves Lapse [] [] (to_host (Reclaimed welcome) ∷ [])
 
+-- A server welcomed a host and restarted. The host, which hasn't got the welcome, says Hello again; and the server says
+-- both that it has restarted and, as if the host were new, Reclaimed.
+abbrev pub restarted : List Step
+restarted = restarts ∷ welcomes ∷ []
+
+abbrev pub welcomes_old : Step
+welcomes_old = serves (Came (to_server 0 Hello)) [] [] (from_server Restarted ∷ from_server (Reclaimed welcome) ∷ [])
+
 -- a lock of so many bytes is asked for
 abbrev pub LocksBytes : ChangeOf → ℕ → Type 0
 LocksBytes change len =
     (label : Name) × (place : Place) × (writing : Bool) × (from : ℕ) × (change.call ≡ Lock label place writing from len)
 
 -- A server says Reclaimed only where it was asked. A host bears one all the same, and doesn't count as welcome by it,
--- since it has greeted nobody; so it asks nothing. Nothing is said twice in a step, and a give-back names a token. A
--- lock of no bytes makes no want, whoever asks for it; one of any other length may.
+-- since it has greeted nobody; so it asks nothing. A live host of an older epoch gets no Reclaimed for its Hello: it
+-- would take it, be in the new epoch without a claim, and the grace period would wait for the claim for ever. Nothing
+-- is said twice in a step, and a give-back names a token. A lock of no bytes makes no want, whoever asks for it; one of
+-- any other length may.
 pub record OddSteps : Type 0 where
   pub told : ServerMay looking file_tree site_one [] (acts_of 1 site_one []) tells_unasked → ⊥
   pub heard : Does looking client [] unasked
+  pub old : ServerMay restarting file_tree site_one restarted (acts_of 1 site_one restarted) welcomes_old → ⊥
   pub asks : HostMay looking client (unasked ∷ []) asks_ungreeted → ⊥
   pub greets : HostDue looking client [] greets_twice → ⊥
   pub gives : HostMay writing client grown gives_length → ⊥

@@ -24,8 +24,9 @@ use Rattle.message_types.specs.declared.telling.Grant.{Grant as GrantOf}
 use Rattle.message_types.specs.declared.tokens.Revoke.{Revoke as RevokeOf}
 use Rattle.need_host.specs.Questions.{fileset_of}
 use Rattle.need_host.specs.Shows.{shows}
-use Rattle.run_rules.specs.Doings.{Doing, Granted, HasGoneDown, HasReclaimed, HeardNow, InEpoch, IsLive, NoGrace}
-use Rattle.run_rules.specs.Doings.{Pinned, SentNow, SentTo, TakenNow, after_admitting, after_cause, epoch, sending}
+use Rattle.run_rules.specs.Doings.{Doing, Granted, HasGoneDown, HasReclaimed, HeardNow, InEpoch, IsLive}
+use Rattle.run_rules.specs.Doings.{ListedNow, NoGrace, Pinned, SentNow, SentTo, TakenNow}
+use Rattle.run_rules.specs.Doings.{after_admitting, after_cause, epoch, sending}
 use Rattle.run_rules.specs.Doings.Doing.{Sent, WritesDown}
 use Rattle.run_rules.specs.Kept.{filesets_kept, filesets_through}
 use Rattle.run_rules.specs.Past.{EachInTurn, In, Once}
@@ -45,10 +46,10 @@ use Rattle.run_rules.specs.declared.step.Step.{Step}
 pub record OnlyAnswers (past : List Doing) (s : Step) : Type 0 where
   -- a Bye answers a Bye of a host that isn't down
   pub bye_only : (h : HostId) → SentNow s h Bye → HeardNow s h Bye × (HasGoneDown past h → ⊥)
-  -- a Reclaimed answers the Hello of a host that isn't down, a claim that the step admits, or one of a host that has
-  -- reclaimed in this epoch
+  -- a Reclaimed answers the Hello of a host that isn't down, and that isn't live since an older epoch: such a host has
+  -- to claim first; or it answers a claim that the step admits, or one of a host that has reclaimed in this epoch
   pub reclaimed_only : (h : HostId) (answer : ReclaimedOf) → SentNow s h (Reclaimed answer)
-      → (HeardNow s h Hello × (HasGoneDown past h → ⊥))
+      → (HeardNow s h Hello × (HasGoneDown past h → ⊥) × ((IsLive past h → ⊥) ⊎ ListedNow past h))
       ⊎ (((c : Admission) × In c s.admitted × (c.host ≡ h))
       ⊎ ((n : ℕ) × (claim : ReclaimOf) × TakenNow past s h n (Reclaim claim) × HasReclaimed past h))
 

@@ -299,7 +299,8 @@ only_hello = record {
   bye_only = λ h x. absurd (let p = (sent_is welcomes (to_host (Reclaimed welcome)) refl h Bye x).1 in cc);
   reclaimed_only = λ h r x. inl (
     (to_server 0 Hello, refl, (sent_is welcomes (to_host (Reclaimed welcome)) refl h (Reclaimed r) x).0, refl),
-    λ d. elim d [ inl y ↦ (let p = y.2 in cc) | inr y ↦ elim y [ ] ],
+    (λ d. elim d [ inl y ↦ (let p = y.2 in cc) | inr y ↦ elim y [ ] ]),
+    inl (not_live h),
   );
 }
 

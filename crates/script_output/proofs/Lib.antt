@@ -1,5 +1,6 @@
 pub mod Levels
 mod Kept
+mod Runs
 pub mod Lines
 pub mod Spelled
 mod Losing

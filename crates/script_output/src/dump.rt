@@ -1,5 +1,5 @@
 //! How filesets are written, object by object.
-ghost use Rattle.std.specs.Prelude.{◌≡◌, ◌++◌, ◌∷◌, [], flat_map, OnOk, IfOk};
+ghost use Rattle.std.specs.Prelude.{◌≡◌, ◌<◌, ◌≤◌, ◌++◌, ◌∷◌, [], flat_map, get_or, length, OnOk, IfOk};
 ghost use Rattle.std.specs.Option.{option_map_or};
 ghost use Rattle.script_output.specs.Dump.{
   before_zero,
@@ -20,6 +20,7 @@ ghost use Rattle.script_output.specs.Kept.{content_lines};
 use crate::access::push_list;
 use crate::texts::{push_number, push_quoted, push_word};
 use base_types::{AccessList, Items, Name, NoMemory};
+use memchr::memchr;
 use tree_filesets::{Fileset, object_at};
 use tree_objects::{Anode, Content, Object};
 
@@ -185,16 +186,19 @@ fn push_list_line(out: &mut Items<u8>, name: &[u8], list: &AccessList) -> Result
 }
 
 // Adds a line for each run of bytes that aren't zero.
-#[tactic(auto, unfolding(crate::specs::Dump::run_line))]
+#[tactic(auto, using(crate::proofs::Runs::zero_more, crate::proofs::Runs::run_more))]
 fn push_runs(out: &mut Items<u8>, bytes: &[u8]) -> Result<(), NoMemory>
     ensures { OnOk result (out.new ≡ out.old ++ flat_map run_line (runs_of bytes.now)) }
 {
-    let mut last = 0;
-    for (at, byte) in bytes.iter().enumerate() {
-        if last == 0 && *byte != 0 {
-            push_run(out, at, before_zero(&bytes[at..]))?;
+    let mut at = 0;
+    while at < bytes.len() {
+        if bytes[at] == 0 {
+            at += 1;
+        } else {
+            let run = before_zero(&bytes[at..]);
+            push_run(out, at, run)?;
+            at += run.len();
         }
-        last = *byte;
     }
     Ok(())
 }
@@ -211,13 +215,14 @@ fn push_run(out: &mut Items<u8>, from: usize, bytes: &[u8]) -> Result<(), NoMemo
 }
 
 // The bytes before the first that is zero.
+#[tactic(auto, using(crate::proofs::Runs::zero_found, crate::proofs::Runs::none_found, crate::proofs::Runs::some_before,))]
 fn before_zero(bytes: &[u8]) -> &[u8]
-    ensures { result.now ≡ before_zero bytes.now }
+    ensures value { result.now ≡ before_zero bytes.now }
+    ensures within { length result.now ≤ length bytes.now }
+    ensures some { 0 < get_or bytes.now 0 0 → 0 < length result.now }
 {
-    for (at, byte) in bytes.iter().enumerate() {
-        if *byte == 0 {
-            return &bytes[..at];
-        }
+    match memchr(0, bytes) {
+        Some(at) => &bytes[..at],
+        None => bytes,
     }
-    bytes
 }

@@ -1,6 +1,8 @@
 ghost use Rattle.std.specs.Prelude.{◌≡◌, ◌<◌, ◌≤◌, ◌∷◌, IsTrue, length};
 ghost use Rattle.script_words.specs.Lines.{line_len, lines_of, ends_in, without_end, content, says_nothing, first_mark};
 
+use memchr::memchr;
+
 /// The first line, with the line feed that ends it, and what comes after it. The last line may lack its line feed.
 #[tactic(auto, using(crate::proofs::Splits::lines_split))]
 pub fn next_line(bytes: &[u8]) -> (&[u8], &[u8])
@@ -12,17 +14,16 @@ pub fn next_line(bytes: &[u8]) -> (&[u8], &[u8])
 }
 
 // How many bytes the first line has, its line feed counted.
+#[tactic(auto, using(crate::proofs::Splits::first_found, crate::proofs::Splits::none_found))]
 fn line_len(bytes: &[u8]) -> usize
     ensures value { result ≡ line_len bytes.now }
     ensures within { result ≤ length bytes.now }
     ensures some { 0 < length bytes.now → 0 < result }
 {
-    for (i, byte) in bytes.iter().enumerate() {
-        if *byte == b'\n' {
-            return i + 1;
-        }
+    match memchr(b'\n', bytes) {
+        Some(at) => at + 1,
+        None => bytes.len(),
     }
-    bytes.len()
 }
 
 // A line without this byte at its end.

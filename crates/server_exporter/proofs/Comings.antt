@@ -257,7 +257,7 @@ module _ (tree : Tree) (past : List Doing) (x : Exporter) (z : IsAt past tree x)
       (word_said t.server now y stands_had m.host (Reclaimed empty_reclaimed) welcome_blank
       (welcome_word t.server now m.host) (λ r e. inl reclaimed_had) answered_had)
       (caused t.server tree past o none_had (w ∷ [])
-      (says_welcome t.server tree past o none_had w refl refl refl up (λ l. absurd (new l.0))) (λ e. absurd (cc))
+      (says_welcome t.server tree past o none_had w refl refl refl up (inl (λ l. new l.0))) (λ e. absurd (cc))
       never_had) z.told (none_new t.server tree past o none_had)
 
   pub hello_opens : m.body ≡ Hello → HasBegun t.server (Came m) tree past

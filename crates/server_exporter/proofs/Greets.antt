@@ -249,7 +249,7 @@ module _ (tree : Tree) (past : List Doing) (x : Exporter) (z : IsAt past tree x)
           (welcome_word t.server now m.host) (λ r e. has either) stays_answered)
           (caused t.server tree past m none (word t m.host (Reclaimed empty_reclaimed) ∷ [])
           (says_welcome t.server tree past m none (word t m.host (Reclaimed empty_reclaimed)) refl refl hello up
-          (λ l. elim either [ inl q ↦ absurd (q l) | inr q ↦ q ])) gone never_more) z.told
+          either) gone never_more) z.told
           (none_new t.server tree past m none)
         where
           -- one that came on the list in this epoch has reclaimed

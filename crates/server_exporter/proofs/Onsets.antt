@@ -63,7 +63,7 @@ pub record SaysAtOnce (server : ServerId) (past : List Doing) (s : Step) (sent :
       × SaysTo sent h (Reclaimed answer)
   pub bye_only : (h : HostId) → SaysTo sent h Bye → HeardNow s h Bye × (HasGoneDown past h → ⊥)
   pub reclaimed_only : (h : HostId) (answer : ReclaimedOf) → SaysTo sent h (Reclaimed answer)
-      → (HeardNow s h Hello × (HasGoneDown past h → ⊥))
+      → (HeardNow s h Hello × (HasGoneDown past h → ⊥) × ((IsLive past h → ⊥) ⊎ ListedNow past h))
       ⊎ ((n : ℕ) × (claim : ReclaimOf) × TakenNow past s h n (Reclaim claim) × HasReclaimed past h)
   pub repeats : (h : HostId) (n : ℕ) (c : ChangeOf) (d : DoneOf) → TakenNow past s h n (Change c)
       → IsDecidedHere server past c.fileset n → d.fileset ≡ c.fileset → d.bring.number ≡ c.number → IsLast past h d

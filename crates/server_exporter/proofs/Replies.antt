@@ -161,12 +161,15 @@ module _ (server : ServerId) (tree : Tree) (past : List Doing) (m : Message) whe
 
       -- that a host which says Hello may go on
       pub says_welcome : w.body ≡ Reclaimed empty_reclaimed → m.body ≡ Hello → (HasGoneDown past m.host → ⊥)
-          → (IsLive past m.host → ListedNow past m.host)
+          → ((IsLive past m.host → ⊥) ⊎ ListedNow past m.host)
           → (s : Step) → s.cause ≡ Came m → SaysAtOnce server past s (w ∷ [])
-      says_welcome body hello up now s e = record {
+      says_welcome body hello up either s e = record {
         hello_old = λ h f live old. (let k = heard_m past m s e h Hello f in
-            absurd (old (subst (ListedNow past) k.0 (now (subst (IsLive past) (sym k.0) live)))));
-        hello = λ h f o either. (let k = heard_m past m s e h Hello f in says h (Reclaimed empty_reclaimed) k.0 body);
+            absurd (elim either [
+              | inl q ↦ q (subst (IsLive past) (sym k.0) live)
+              | inr q ↦ old (subst (ListedNow past) k.0 q)
+            ]));
+        hello = λ h f o other. (let k = heard_m past m s e h Hello f in says h (Reclaimed empty_reclaimed) k.0 body);
         bye = λ h f o either. absurd (let k = sym hello ∙ (heard_m past m s e h Bye f).1 in cc);
         late = λ h n is to live other not_hello not_down.
             absurd (not_hello (sym (was_m past m s e h n is to).2 ∙ hello));
@@ -175,8 +178,9 @@ module _ (server : ServerId) (tree : Tree) (past : List Doing) (m : Message) whe
         gone_only = λ h n q. absurd (let k = sym body ∙ (its h _ q).1 in cc);
         claim_again = λ h n c t r. absurd (no_claim s e h n c t);
         bye_only = λ h q. absurd (let k = sym body ∙ (its h _ q).1 in cc);
-        reclaimed_only = λ h a q. inl (subst (λ (z : HostId). HeardNow s z Hello × (HasGoneDown past z → ⊥))
-            (sym host ∙ (its h _ q).0) ((m, e, refl, hello), up));
+        reclaimed_only = λ h a q. inl (subst (λ (z : HostId). HeardNow s z Hello × (HasGoneDown past z → ⊥)
+            × ((IsLive past z → ⊥) ⊎ ListedNow past z)) (sym host ∙ (its h _ q).0)
+            ((m, e, refl, hello), up, either));
         repeats = λ h n c d t here f k last done. absurd (no_ask s e h n (Changes c) t);
         dones_only = λ h d q. absurd (let k = sym body ∙ (its h _ q).1 in cc);
         no_grant = λ h g q. let k = sym body ∙ (its h _ q).1 in cc;

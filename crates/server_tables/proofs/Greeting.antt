@@ -251,7 +251,11 @@ module _ (past : List Doing) (x : Tables) (m : Message) (s : Stands past x)
         in cc);
     reclaimed_only = λ h r w. let p = (only x.server m m.host h x.hosts.epoch 0 (Reclaimed empty_reclaimed)
         (Reclaimed r) w).0 in
-        inl ((m, refl, p, hello), subst (λ (k : HostId). HasGoneDown past k → ⊥) p up);
+        inl (
+          (m, refl, p, hello),
+          subst (λ (k : HostId). HasGoneDown past k → ⊥) p up,
+          inl (λ l. new (subst (Listed past) (sym p) l.0)),
+        );
   }
 
   quiet : IsQuiet x.server past m (answer ∷ [])
