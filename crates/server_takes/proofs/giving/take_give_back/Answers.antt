@@ -4,10 +4,11 @@ use Rattle.std.proofs.lemmas.Result.{on_ok_weaker}
 use Rattle.base_types.specs.declared.ids.ServerId.{ServerId}
 use Rattle.tree_calls.specs.declared.roster.Roster.{Roster}
 use Rattle.store_acts.specs.Acts.{state_after}
-use Rattle.store_acts.specs.Sound.{IsAct}
+use Rattle.message_types.specs.Soundness.{Each}
+use Rattle.store_acts.specs.Sound.{AreActs, IsAct}
 use Rattle.store_acts.specs.declared.act.Act.{Act}
 use Rattle.store_memory.specs.Reading.{status_told}
-use Rattle.server_looks.specs.Acts.{giving}
+use Rattle.server_looks.specs.Acts.{AreRepeatable, IsGive, giving}
 use Rattle.server_takes.proofs.Bodies.{on_ok_is}
 use Rattle.server_takes.proofs.Gathered.{one_acts, one_gives, one_repeats}
 use Rattle.server_takes.specs.Messages.{IsOneMore}
@@ -19,18 +20,20 @@ give_all-requires-clause-acts g c =
     let start = (g.S.Store.view c.args.keeper.now.store).state in
     let same = c.in_ok-gather_give_back.ensures.asked.tried.same in
     let act = giving c.args.host c.args.give.now in
+    let mid = (g.S.Store.view c.gather_give_back.new.keeper.store).state in
     let more = subst (λ (w : List Act). IsOneMore c.args.host c.args.give.now w c.gather_give_back.new.waiting)
     c.new-waiting.ensures c.in_ok-gather_give_back.ensures.waits in
-    one_acts c.args.host c.args.give.now c.gather_give_back.new.waiting _ _ more
-    (subst (λ (r : Roster). IsAct r (g.S.Store.view c.gather_give_back.new.keeper.store).state.server act)
-    (sym same.roster)
-    (subst (λ (s : ServerId). IsAct start.roster s act) (sym same.server) c.requires.act))
+    subst (λ (l : List Act). AreActs mid.roster mid.server l) (sym c.as_slice.ensures)
+    (one_acts c.args.host c.args.give.now c.gather_give_back.new.waiting mid.roster mid.server more
+    (subst (λ (r : Roster). IsAct r mid.server act) (sym same.roster)
+    (subst (λ (s : ServerId). IsAct start.roster s act) (sym same.server) c.requires.act)))
 
 pub give_all-requires-clause-gives : goal.give_all-requires-clause-gives
 give_all-requires-clause-gives g c =
     let more = subst (λ (w : List Act). IsOneMore c.args.host c.args.give.now w c.gather_give_back.new.waiting)
     c.new-waiting.ensures c.in_ok-gather_give_back.ensures.waits in
-    one_gives c.args.host c.args.give.now c.gather_give_back.new.waiting more c.requires.act.2
+    subst (λ (l : List Act). Each IsGive l) (sym c.as_slice.ensures)
+    (one_gives c.args.host c.args.give.now c.gather_give_back.new.waiting more c.requires.act.2)
 
 pub gather_give_back-requires-clause-gives : goal.gather_give_back-requires-clause-gives
 gather_give_back-requires-clause-gives g c = rw c.new-waiting.ensures tt
@@ -59,8 +62,10 @@ returns-clause-state g c tells again =
     let more = subst (λ (w : List Act). IsOneMore c.args.host c.args.give.now w c.gather_give_back.new.waiting)
     c.new-waiting.ensures c.in_ok-gather_give_back.ensures.waits in
     on_ok_weaker c.give_all.result
-    (λ e. e ∙ c.in_ok-gather_give_back.ensures.state tells
+    (λ e. e ∙ ap (λ (l : List Act). state_after mid l) c.as_slice.ensures
+    ∙ c.in_ok-gather_give_back.ensures.state tells
     ∙ ap (λ (w : List Act). give_state c.args.tables.now c.args.host c.args.give.now (state_after start w))
     c.new-waiting.ensures)
-    (c.give_all.ensures.state tells (one_repeats c.args.host c.args.give.now c.gather_give_back.new.waiting start mid
-    (c.in_ok-gather_give_back.ensures.asked.state tells) more again))
+    (c.give_all.ensures.state tells (subst (λ (l : List Act). AreRepeatable mid l) (sym c.as_slice.ensures)
+    (one_repeats c.args.host c.args.give.now c.gather_give_back.new.waiting start mid
+    (c.in_ok-gather_give_back.ensures.asked.state tells) more again)))
