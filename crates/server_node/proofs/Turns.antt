@@ -373,7 +373,7 @@ module _ {S : Type 0} (tells : Type 0) (view : S → View) (part : Part) (n : Se
   gathers_none m waiting steps came lapses none so = (
     room_for m (view m.keeper.store).state steps came lapses so,
     subst (λ (l : List Act). StandsAt tells view (state_after (view m.keeper.store).state l) part m past steps came
-    lapses) (sym none) so,
+        lapses) (sym none) so,
   )
 
   -- and so it stood
@@ -678,3 +678,18 @@ module _ {S : Type 0} (tells : Type 0) (view : S → View) (n m : ServerNode S) 
       → OnOk r (AreTheirs x now)
   none_theirs r x now then e none =
       all_ok r (subst (AreTheirs x) (sym (e ∙ none)) tt)
+
+-- all that were kept are taken
+pub all_taken : {T E : Type 0} (r : Result T E) (x : Tables) (inbox : List Message) → OnOk r (inbox ≡ [])
+    → OnOk r (AreTheirs x inbox)
+all_taken (Ok value) x inbox none = subst (AreTheirs x) (sym none) tt
+all_taken (Err error) x inbox none = tt
+
+pub none_left : {S T E : Type 0} (tells : Type 0) (view : S → View) (part : Part) (past : List Round) (r : Result T E)
+    (m : ServerNode S) (made : List Step) (came : List Message) (lapses : ℕ) → OnOk r (m.inbox ≡ [])
+    → OnOk r (StandsSo tells view part m past made came lapses)
+    → OnOk r (StandsSo tells view part m past made (came ++ latest_first m.inbox) lapses)
+none_left tells view part past (Ok value) m made came lapses none so =
+    subst (λ (l : List Message). StandsSo tells view part m past made (came ++ latest_first l) lapses) (sym none)
+    (subst (λ (l : List Message). StandsSo tells view part m past made l lapses) (sym (append-nil came)) so)
+none_left tells view part past (Err error) m made came lapses none so = tt

@@ -357,7 +357,7 @@ impl<'a, S: Store + Drop> ServerNode<'a, S> {
         ensures failed { result ≡ Err StoreFailed → HasFailed S.tells S.view self.old self.new }
     {
         if self.may_keep(&given) {
-            return self.keep(given);
+            return self.keep(given, steps);
         }
         match self.take_kept(steps) {
             Ok(()) => self.take_rest(given, steps),
@@ -369,7 +369,7 @@ impl<'a, S: Store + Drop> ServerNode<'a, S> {
     fn may_keep(&self, given: &Option<Given>) -> bool
         ensures { IsTrue result → IsGiveBackTo given.now }
     {
-        if self.inbox.len() >= GIVES_MAX || !self.exporter.is_free() {
+        if !self.exporter.is_free() {
             return false;
         }
         match given {
@@ -378,8 +378,52 @@ impl<'a, S: Store + Drop> ServerNode<'a, S> {
         }
     }
 
+    // A give-back that came is kept, behind those that were; where there is no room these are taken first.
+    fn keep(&mut self, given: Option<Given>, steps: &mut Pending) -> Result<(), NodeFault>
+        requires ready { IsReady S.tells S.view self.old }
+        requires rested { self.old.exporter.rested ≡ true }
+        requires theirs { AreTheirs self.old.exporter.tables self.old.inbox }
+        requires given { IfSome given (IsFor self.old.exporter.tables) }
+        requires back { IsGiveBackTo given }
+        ensures ready { OnOk result (IsReady S.tells S.view self.new) }
+        ensures rested { OnOk result (self.new.exporter.rested ≡ true) }
+        ensures theirs { OnOk result (AreTheirs self.new.exporter.tables self.new.inbox) }
+        ensures works { (part : Part) (past : List Round) → StandsSo S.tells S.view part self.old past steps.old.steps
+            (message_in given ++ latest_first self.old.inbox) (lapse_in given)
+            → OnOk result (StandsSo S.tells S.view part self.new past steps.new.steps (latest_first self.new.inbox) 0) }
+        ensures stays { HasServed S.tells S.view self.old self.new }
+        ensures failed { result ≡ Err StoreFailed → HasFailed S.tells S.view self.old self.new }
+    {
+        match self.make_room(steps) {
+            Ok(()) => self.put(given),
+            Err(fault) => Err(fault),
+        }
+    }
+
+    // Takes the give-backs that were kept, where there is no room for one more.
+    fn make_room(&mut self, steps: &mut Pending) -> Result<(), NodeFault>
+        requires ready { IsReady S.tells S.view self.old }
+        requires rested { self.old.exporter.rested ≡ true }
+        requires theirs { AreTheirs self.old.exporter.tables self.old.inbox }
+        ensures ready { OnOk result (IsReady S.tells S.view self.new) }
+        ensures rested { OnOk result (self.new.exporter.rested ≡ true) }
+        ensures theirs { OnOk result (AreTheirs self.new.exporter.tables self.new.inbox) }
+        ensures works { (part : Part) (past : List Round) (came : List MessageOf) (lapses : ℕ)
+            → StandsSo S.tells S.view part self.old past steps.old.steps (came ++ latest_first self.old.inbox) lapses
+            → OnOk result (StandsSo S.tells S.view part self.new past steps.new.steps
+            (came ++ latest_first self.new.inbox) lapses) }
+        ensures stays { HasServed S.tells S.view self.old self.new }
+        ensures failed { result ≡ Err StoreFailed → HasFailed S.tells S.view self.old self.new }
+    {
+        let is_full = self.inbox.len() >= GIVES_MAX;
+        if !is_full {
+            return Ok(());
+        }
+        self.take_kept(steps)
+    }
+
     // A message that came is kept, to be taken later.
-    fn keep(&mut self, given: Option<Given>) -> Result<(), NodeFault>
+    fn put(&mut self, given: Option<Given>) -> Result<(), NodeFault>
         requires { IsGiveBackTo given }
         ensures rest { self.new ≡ record self.old { inbox = self.new.inbox } }
         ensures kept { (message : MessageOf) → given ≡ Some (Came message)
@@ -420,7 +464,11 @@ impl<'a, S: Store + Drop> ServerNode<'a, S> {
     }
 
     // Takes the first that was kept. What it brings may wait to be stored, where no Change is left to be decided.
-    fn gather_next(&mut self, waiting: &mut Items<Act>, steps: &mut Pending) -> Result<(), NodeFault>
+    fn gather_next(
+        &mut self,
+        waiting: &mut Items<Act>,
+        steps: &mut Pending,
+    ) -> Result<(), NodeFault>
         requires some { 0 < length self.old.inbox }
         requires ready { IsReady S.tells S.view self.old }
         requires rested { self.old.exporter.rested ≡ true }
@@ -447,7 +495,11 @@ impl<'a, S: Store + Drop> ServerNode<'a, S> {
     }
 
     // Stores what waits, where a Change is left to be decided, and decides what is left.
-    fn settle_gathered(&mut self, waiting: &mut Items<Act>, steps: &mut Pending) -> Result<(), NodeFault>
+    fn settle_gathered(
+        &mut self,
+        waiting: &mut Items<Act>,
+        steps: &mut Pending,
+    ) -> Result<(), NodeFault>
         requires ready { IsReady S.tells S.view self.old }
         requires gives { AreGives (S.view self.old.keeper.store).state waiting.old }
         ensures ready { OnOk result (IsReady S.tells S.view self.new) }

@@ -2,38 +2,16 @@ use Rattle.std.proofs.Common.{◌∙◌, List, sym, subst}
 use Rattle.std.specs.Prelude.{OnOk}
 use Rattle.hub_laws.specs.Keeping.{lapse_in, message_in}
 use Rattle.message_types.specs.declared.message.Message.{Message}
-use Rattle.server_node.proofs.Turns.{given_still, kept_ready, kept_rested, kept_stays, kept_theirs, kept_then}
-use Rattle.server_node.proofs.Turns.{none_theirs}
+use Rattle.server_node.proofs.Turns.{given_still, none_theirs}
 use Rattle.server_node.specs.Laws.{fails_later, stays_on}
 use Rattle.server_node.specs.Standing.{StandsSo, latest_first}
 use Rattle.server_node.proofs.server.ServerNode.take_turn.Goals as goal
 
-pub keep-requires : goal.keep-requires
-keep-requires g c = c.may_keep.ensures c.if-may_keep.true
-
-pub returns-then-may_keep-clause-ready : goal.returns-then-may_keep-clause-ready
-returns-then-may_keep-clause-ready g c =
-    kept_ready g.S.Store.tells g.S.Store.view c.args.self.now c.keep.new.self c.keep.result c.keep.ensures.rest
-    c.requires.ready
-
-pub returns-then-may_keep-clause-rested : goal.returns-then-may_keep-clause-rested
-returns-then-may_keep-clause-rested g c =
-    kept_rested g.S.Store.tells g.S.Store.view c.args.self.now c.keep.new.self c.keep.result c.keep.ensures.rest
-    c.requires.rested
-
-pub returns-then-may_keep-clause-theirs : goal.returns-then-may_keep-clause-theirs
-returns-then-may_keep-clause-theirs g c =
-    kept_theirs g.S.Store.tells g.S.Store.view c.args.self.now c.keep.new.self c.keep.result c.args.given
-    (c.may_keep.ensures c.if-may_keep.true) c.keep.ensures.rest c.requires.given c.requires.theirs c.keep.ensures.kept
+pub keep-requires-clause-back : goal.keep-requires-clause-back
+keep-requires-clause-back g c = c.may_keep.ensures c.if-may_keep.true
 
 pub returns-then-may_keep-clause-works : goal.returns-then-may_keep-clause-works
-returns-then-may_keep-clause-works g c = λ part past so given.
-    kept_then g.S.Store.tells g.S.Store.view part c.args.self.now past c.args.steps.now.steps c.keep.result
-    c.keep.new.self c.args.given (c.may_keep.ensures c.if-may_keep.true) c.keep.ensures.rest c.keep.ensures.kept so
-
-pub returns-then-may_keep-clause-stays : goal.returns-then-may_keep-clause-stays
-returns-then-may_keep-clause-stays g c =
-    kept_stays g.S.Store.tells g.S.Store.view c.args.self.now c.keep.new.self c.keep.ensures.rest
+returns-then-may_keep-clause-works g c = λ part past so given. c.keep.ensures.works part past so
 
 pub take_rest-requires-clause-given : goal.take_rest-requires-clause-given
 take_rest-requires-clause-given g c =
