@@ -2,22 +2,30 @@
 //! writes what came of it to standard output; or it checks disks. The words are those of the top call,
 //! `service_run::run`, whose status is the number with which the program ends. Where a file can't be opened, or a call
 //! of it failed, its name and the system's reason go to standard error.
+//!
+//! Under `run --journal FILE ..` the journal of the run goes to FILE, once the disks are closed, as
+//! `tell_journal` says, whose code is the number with which the program ends.
 #![tactic(auto)]
 
+mod asked;
+mod journal;
+mod lines;
 mod streams;
 
-ghost use Rattle.std.specs.Prelude.{◌≡◌, length, map, IfOk};
+ghost use Rattle.std.specs.Prelude.{◌≡◌, length, map, None, false, IfOk};
 ghost use Rattle.std.specs.String.{string_bytes};
 ghost use Rattle.script_commands.specs.Command.{disk_names};
 ghost use Rattle.service_run.specs.Checks.{AreNamed};
-ghost use Rattle.service_run.specs.Outcomes.{code_of};
+ghost use Rattle.service_run.specs.Outcomes.{code_of, has_run};
 
+use crate::asked::take_journal;
+use crate::journal::{Ended, has_run, refuse_course, refuse_file, tell_journal};
 use crate::streams::Streams;
 use base_io::{StdSink, StdSource};
-use base_types::NoMemory;
+use base_types::{NoMemory, Sink};
 use disk_device::{FileDisk, FileFault};
 use script_commands::disk_names;
-use service_run::{OpenGate, Outcome, Status, refuse_disk, run};
+use service_run::{Course, OpenGate, Outcome, Status, refuse_disk, run};
 use std::alloc::{AllocError, Global};
 use std::fs::File;
 use std::io::ErrorKind;
@@ -44,9 +52,10 @@ fn main(rt: HostRuntime) -> ExitCode {
     let streams = Streams::hold(&rt, &rt.stdin(), &rt.stdout(), &rt.stderr());
     let mut source = StdSource::new(rt.stdin());
     let mut sink = StdSink::new(rt.stdout());
-    let Ok(words) = words(&rt) else {
+    let Ok(mut words) = words(&rt) else {
         return ExitCode::from(Status::NoMemory.code());
     };
+    let journal = take_journal(&mut words);
     let Ok(names) = names_in(rt.alloc(), words.as_slice()) else {
         return ExitCode::from(Status::NoMemory.code());
     };
@@ -62,7 +71,8 @@ fn main(rt: HostRuntime) -> ExitCode {
                 &OpenGate,
             );
             tell_faults(&rt, names.as_slice(), disks.as_slice());
-            code_of(outcome)
+            drop(disks);
+            finish(&rt, outcome, journal, &mut sink)
         }
         Err(NotOpened::Refused(number)) => code_of(refuse_disk(rt.alloc(), number, &mut sink)),
         Err(NotOpened::Memory) => Status::NoMemory.code(),
@@ -77,6 +87,51 @@ fn code_of(outcome: Outcome) -> u8
     let code = outcome.status.code();
     mem::forget(outcome);
     code
+}
+
+// The number with which the program ends. Of a run that came to its end the journal is written to the file of this name,
+// if one is asked for.
+fn finish<K: Sink>(
+    rt: &(impl Files<File = File> + Eprint + AllocGlobal),
+    outcome: Outcome,
+    journal: Option<String>,
+    sink: &mut K,
+) -> u8
+    ensures unasked { journal ≡ None → result ≡ code_of outcome.status }
+    ensures stopped { has_run outcome.status ≡ false → result ≡ code_of outcome.status }
+{
+    let Some(name) = journal else {
+        return code_of(outcome);
+    };
+    if !has_run(outcome.status) {
+        return code_of(outcome);
+    }
+    let ended = journaled(rt, &outcome, name.as_str(), sink);
+    mem::forget(outcome);
+    ended.code()
+}
+
+// Writes the journal of a run to a new file of this name: one that is there already may be a disk. Why it can't be
+// made goes to standard error.
+fn journaled<K: Sink>(
+    rt: &(impl Files<File = File> + Eprint + AllocGlobal),
+    outcome: &Outcome,
+    name: &str,
+    sink: &mut K,
+) -> Ended {
+    let Course::Hosted(journal) = &outcome.course else {
+        return refuse_course(sink);
+    };
+    match File::create_new(rt, name) {
+        Ok(file) => {
+            let mut file = StdSink::new(file);
+            tell_journal(rt.alloc(), outcome.status, journal, &mut file, sink)
+        }
+        Err(error) => {
+            tell(rt, name, FileFault::from(error));
+            refuse_file(sink)
+        }
+    }
 }
 
 // The words after the program's name. Where one isn't UTF-8 there are none, which are in no grammar.

@@ -38,7 +38,7 @@ use Rattle.run_goes_on.specs.Rest.{AllIsOver, IsStopped, IsTakenIn, LapsesIn, No
 use Rattle.run_goes_on.specs.Waiting.{WhatWaitsHasCome}
 
 -- what a server's doings once had they have after a step
-cause_on : (P : List Doing → Doing → Type 0) (c : Cause) (S : List Doing) → Once P S → Once P (after_cause c S)
+pub cause_on : (P : List Doing → Doing → Type 0) (c : Cause) (S : List Doing) → Once P S → Once P (after_cause c S)
 cause_on P (Came m) S o = inr o
 cause_on P (Restart line) S o = inr o
 cause_on P Flushed S o = inr o

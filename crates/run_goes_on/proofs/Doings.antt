@@ -34,7 +34,7 @@ use Rattle.run_tokens.proofs.Words.{acts_after, if_host, if_server, own_after}
 
 -- # Epochs
 
-epoch_on : (a : Doing) (S : List Doing) → (IsNewEpoch a → ⊥) → epoch (a ∷ S) ≡ epoch S
+pub epoch_on : (a : Doing) (S : List Doing) → (IsNewEpoch a → ⊥) → epoch (a ∷ S) ≡ epoch S
 epoch_on (BeginsEpoch e) S none = absurd (none (e, refl))
 epoch_on (Took h e n b) S none = refl
 epoch_on Flushes S none = refl
@@ -282,7 +282,8 @@ listed_said (a ∷ S) h (inl l) = let k = l.0 in (k.0, k.1, inl k.2)
 listed_said (a ∷ S) h (inr l) = let k = listed_said S h l in (k.0, k.1, inr k.2)
 
 module _ (h : HostId) (e n : ℕ) (b : Body) where
-  took_deciding : (xs : List Applied) (S : List Doing) → TookIt (appended (deciding xs) S) h e n b → TookIt S h e n b
+  pub took_deciding : (xs : List Applied) (S : List Doing) → TookIt (appended (deciding xs) S) h e n b
+      → TookIt S h e n b
   took_deciding [] S o = o
   took_deciding (IsWanted w ∷ xs) S o = elim (took_deciding xs (MakesWant w ∷ S) o) [
     | inl q ↦ absurd (let z : MakesWant w ≡ Took h e n b = q in cc)
@@ -296,7 +297,7 @@ module _ (h : HostId) (e n : ℕ) (b : Body) where
   took_deciding (Stored k f ss m ∷ xs) S o = took_deciding xs S o
   took_deciding (IsDown k ∷ xs) S o = took_deciding xs S o
 
-  took_admitting : (cs : List Admission) (S : List Doing) → TookIt (appended (admitting cs) S) h e n b
+  pub took_admitting : (cs : List Admission) (S : List Doing) → TookIt (appended (admitting cs) S) h e n b
       → TookIt S h e n b
   took_admitting [] S o = o
   took_admitting (c ∷ cs) S o = elim (took_admitting cs (Admits c.host c.tokens ∷ S) o) [
@@ -348,7 +349,7 @@ module _ (script : Script) (start : Tree) (firsts : ServerId → ℕ) (real : (v
       (doings_of (firsts v) v past)
       (λ e. (let le = epoch_after_step s (doings_of (firsts v) v past) in omega (arith, up, le))) up
 
-  above_first : (past : List Step) (v : ServerId) → 0 < epoch (doings_of (firsts v) v past)
+  pub above_first : (past : List Step) (v : ServerId) → 0 < epoch (doings_of (firsts v) v past)
   above_first [] v = real v
   above_first (s ∷ past) v = above_step v past s s.node (above_first past v)
 

@@ -5,4 +5,16 @@ pub mod Staying
 pub mod Doings
 pub mod Arriving
 pub mod Giving
+pub mod Telling
+pub mod Grown
+pub mod Claiming
+pub mod Answering
+pub mod Hailing
+pub mod Stopping
+pub mod Welcoming
+pub mod Gracing
+pub mod Leaving
+pub mod Granting
+pub mod Owing
 pub mod Resting
+pub mod Done

@@ -87,10 +87,10 @@ unfolding is_bye
 of_bye b e = ap is_bye e
 
 module _ (v : ServerId) where
-  abbrev IsBye : Message → Type 0
+  abbrev pub IsBye : Message → Type 0
   IsBye m = (m.server ≡ v) × (m.body ≡ Bye)
 
-  one : (m : Message) → IsBye m ⊎ (IsBye m → ⊥)
+  pub one : (m : Message) → IsBye m ⊎ (IsBye m → ⊥)
   one m = go (is_bye m.body && (m.server.0 == v.0)) refl
     where
       go : (b : Bool) → (is_bye m.body && (m.server.0 == v.0)) ≡ b → IsBye m ⊎ (IsBye m → ⊥)

@@ -3,15 +3,18 @@
 use Rattle.std.specs.Prelude.{ℕ, ◌≡◌, List}
 use Rattle.base_types.specs.declared.ids.HostId.{HostId}
 use Rattle.base_types.specs.declared.ids.ServerId.{ServerId}
+use Rattle.token_types.specs.declared.token.Token.{Token}
 use Rattle.script_lines.specs.declared.script.Script.{Script}
 use Rattle.message_types.specs.declared.giving.Give.{Give}
 use Rattle.message_types.specs.declared.message.Body.{Body}
-use Rattle.message_types.specs.declared.message.Body.TheVariants.{Change, Fetch, GiveBack, Hello}
-use Rattle.run_rules.specs.Doings.{Hears, doings_of}
+use Rattle.message_types.specs.declared.message.Body.TheVariants.{Bye, Change, Fetch, GiveBack, Hello}
+use Rattle.run_rules.specs.Doings.{HasGoneAway, Hears, NoGrace, doings_of}
 use Rattle.run_rules.specs.HostDue.{IsUnanswered}
-use Rattle.run_rules.specs.Messages.{HasStopped}
+use Rattle.run_rules.specs.HostMay.{AwaitsReclaimed}
+use Rattle.run_rules.specs.Messages.{HasBye, HasStopped, IsWelcome, Says}
 use Rattle.run_rules.specs.Past.{Once, appended}
 use Rattle.run_rules.specs.Runs.{IsDutiful, IsRun, firsts_of, past_of}
+use Rattle.run_rules.specs.ServerMay.{IsOwed}
 use Rattle.run_rules.specs.Steps.{steps_of_host}
 use Rattle.run_rules.specs.Tokens.{IsKnown, IsOpen, Made}
 use Rattle.run_rules.specs.declared.journal.Journal.{Journal}
@@ -65,3 +68,40 @@ GivesAreKnown =
     (script : Script) (journal : Journal) → IsQuiet script journal → (host : HostId)
     → (HasStopped (steps_of_host host (past_of journal)) → ⊥) → (give : Give)
     → Made (steps_of_host host (past_of journal)) give → IsKnown (steps_of_host host (past_of journal)) give
+
+-- and no claim of a host waits for its answer at a server where the host hasn't gone away, but of a host that has
+-- stopped
+abbrev pub ClaimsAreAnswered : Type 0
+ClaimsAreAnswered =
+    (script : Script) (journal : Journal) → IsQuiet script journal → (host : HostId)
+    → (HasStopped (steps_of_host host (past_of journal)) → ⊥) → (server : ServerId)
+    → (HasGoneAway (doings_of (firsts_of journal server) server (past_of journal)) host → ⊥)
+    → AwaitsReclaimed (steps_of_host host (past_of journal)) server → ⊥
+
+-- so does no greeting
+abbrev pub GreetingsAreAnswered : Type 0
+GreetingsAreAnswered =
+    (script : Script) (journal : Journal) → IsQuiet script journal → (host : HostId)
+    → (HasStopped (steps_of_host host (past_of journal)) → ⊥) → (server : ServerId) (moves : ℕ)
+    → (HasGoneAway (doings_of (firsts_of journal server) server (past_of journal)) host → ⊥)
+    → IsUnanswered (steps_of_host host (past_of journal)) server moves Hello → ⊥
+
+-- nor a Bye that a host said when it was welcome
+abbrev pub ByesAreAnswered : Type 0
+ByesAreAnswered =
+    (script : Script) (journal : Journal) → IsQuiet script journal → (host : HostId)
+    → (HasStopped (steps_of_host host (past_of journal)) → ⊥) → (server : ServerId)
+    → Once (λ before s. IsWelcome before server × Says s server Bye) (steps_of_host host (past_of journal))
+    → (HasBye (steps_of_host host (past_of journal)) server → ⊥) → ⊥
+
+-- So no grace period stands: each host that is live at a server has reclaimed in its epoch.
+abbrev pub NoGracePeriodStands : Type 0
+NoGracePeriodStands =
+    (script : Script) (journal : Journal) → IsQuiet script journal → (server : ServerId)
+    → NoGrace (doings_of (firsts_of journal server) server (past_of journal))
+
+-- and no token that a server asked back is owed: it was returned, given back, or kept
+abbrev pub NothingIsOwed : Type 0
+NothingIsOwed =
+    (script : Script) (journal : Journal) → IsQuiet script journal → (server : ServerId) (token : Token)
+    → IsOwed server (doings_of (firsts_of journal server) server (past_of journal)) token → ⊥

@@ -29,8 +29,8 @@ use Rattle.script_reader.specs.declared.refused.ScriptRefused.TheVariants.{BadLi
 -- the words that the program takes
 unfoldable pub usage_line : List ℕ
 usage_line =
-    codes "usage: dfs_run run [--json] [--workers N] [DISK ...] | gen SEED HOSTS CALLS [--workers N]"
-    ++ codes " | check DISK [DISK ...] [--workers N]\n"
+    codes "usage: dfs_run run [--journal FILE] [--json] [--workers N] [DISK ...]"
+    ++ codes " | gen SEED HOSTS CALLS [--workers N] | check DISK [DISK ...] [--workers N]\n"
 
 unfoldable pub input_line : List ℕ
 input_line = codes "refused: read fault\n"

@@ -18,8 +18,8 @@ use std::alloc::Global;
 pub(crate) fn usage_line() -> &'static [u8]
     ensures { result.now ≡ usage_line }
 {
-    b"usage: dfs_run run [--json] [--workers N] [DISK ...] | gen SEED HOSTS CALLS [--workers N] \
-      | check DISK [DISK ...] [--workers N]\n"
+    b"usage: dfs_run run [--journal FILE] [--json] [--workers N] [DISK ...] \
+      | gen SEED HOSTS CALLS [--workers N] | check DISK [DISK ...] [--workers N]\n"
 }
 
 /// The line where the source failed.

@@ -1,0 +1,9 @@
+pub mod Forms
+pub mod Parts
+pub mod Calls
+pub mod Objects
+pub mod Messages
+pub mod Trees
+pub mod Steps
+pub mod Lines
+pub mod Texts

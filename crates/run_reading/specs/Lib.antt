@@ -1,0 +1,3 @@
+pub mod Messages
+pub mod Journals
+pub mod Laws
