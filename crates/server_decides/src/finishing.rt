@@ -2,7 +2,6 @@ ghost use Rattle.std.specs.List.{list_all};
 ghost use Rattle.std.specs.Prelude.{◌≡◌, ◌<◌, true, [], length, IfOk, IsTrue, OnOk};
 ghost use Rattle.message_types.specs.declared.message.Body.TheVariants.{GiveBack};
 ghost use Rattle.store_acts.specs.Acts.{state_after};
-ghost use Rattle.store_memory.specs.Views.{View};
 ghost use Rattle.store_state.specs.declared.state.StoreState.{StoreState};
 ghost use Rattle.server_decides.specs.Deciding.{is_waiting, outlook_at};
 ghost use Rattle.server_decides.specs.Gathering.{AreGives, IsIdle, IsStoredOrSame};
@@ -170,7 +169,7 @@ fn finish_idle(tables: &mut Tables, draft: &mut Draft) -> Result<bool, NoMemory>
     ensures finished { (state : StoreState) → IsServed tables.old state → IfOk result (λ rested.
         IsFinished tables.old draft.old state tables.new draft.new state rested) }
     ensures says { AreSound tables.old → OnOk result (SaysOn tables.old draft.old tables.new draft.new) }
-    ensures served { (view : View) → IsServed tables.old view.state → OnOk result (IsServed tables.new view.state) }
+    ensures served { (state : StoreState) → IsServed tables.old state → OnOk result (IsServed tables.new state) }
 {
     tables.tokens.laws();
     revoke_all(tables, draft)?;

@@ -18,6 +18,6 @@ returns-clause-says g c sound =
     c.in_ok-revoke_all.ensures.tables c.in_ok-revoke_all.ensures.draft sound
 
 pub returns-clause-served : goal.returns-clause-served
-returns-clause-served g c view served =
-    back_served view c.args.tables.now c.revoke_all.new.tables c.args.draft.now
+returns-clause-served g c state served =
+    back_served state c.args.tables.now c.revoke_all.new.tables c.args.draft.now
     (not_asked (wanted c.args.tables.now.tokens)) c.in_ok-revoke_all.ensures.tables served

@@ -122,7 +122,7 @@ returns-then-is_idle-clause-gives g c =
 
 pub returns-then-is_idle-clause-served : goal.returns-then-is_idle-clause-served
 returns-then-is_idle-clause-served g c =
-    c.in_ok-finish_idle-then-is_idle.ensures.served (g.S.Store.view c.gather_message.new.keeper.store)
+    c.in_ok-finish_idle-then-is_idle.ensures.served (g.S.Store.view c.gather_message.new.keeper.store).state
     (heard_served c.args.tables.now c.gather_message.new.tables c.args.draft.now c.gather_message.new.draft
     c.args.message.now (g.S.Store.view c.args.keeper.now.store) (g.S.Store.view c.gather_message.new.keeper.store)
     c.requires.served c.requires.given c.in_ok-gather_message.ensures.heard c.in_ok-gather_message.ensures.counted

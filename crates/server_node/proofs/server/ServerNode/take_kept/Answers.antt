@@ -38,7 +38,7 @@ loop-self-preserved g c = record {
 
 pub gather_next-requires-clause-some : goal.gather_next-requires-clause-some
 gather_next-requires-clause-some g c = some_of c.loop-self.self.inbox
-    (λ e. let is = c.is_empty.ensures.1 e in let no = c.while-not-is_empty.true in absurd (cc))
+    (λ e. let is = c.is_empty.ensures.1 e in let no = c.loop-self-test.true in absurd (cc))
 
 pub returns-in-Err-clause-stays : goal.returns-in-Err-clause-stays
 returns-in-Err-clause-stays g c =
@@ -50,7 +50,6 @@ returns-in-Err-clause-failed g c = λ e.
     fails_later g.S.Store.tells g.S.Store.view c.args.self.now c.loop-self.self c.gather_next.new.self
     c.loop-self.invariant.stays (c.gather_next.ensures.failed (c.in-Err.is ∙ e))
 
--- How the end of a `while` is called in `c` wasn't seen yet: `none` is that nothing is kept then.
 pub returns-clause-rested : goal.returns-clause-rested
 returns-clause-rested g c =
     all_ok c.store.result
@@ -58,12 +57,12 @@ returns-clause-rested g c =
 
 pub returns-clause-inbox : goal.returns-clause-inbox
 returns-clause-inbox g c =
-    let none = c.is_empty.ensures.0 c.while-not-is_empty.false in
+    let none = c.is_empty.ensures.0 c.loop-self-test.false in
     all_ok c.store.result (ap (λ (z : ServerNode g.row.S.Denot). z.inbox) c.store.ensures.rest ∙ none)
 
 pub returns-clause-works : goal.returns-clause-works
 returns-clause-works g c = λ part past came lapses so.
-    let none = c.is_empty.ensures.0 c.while-not-is_empty.false in
+    let none = c.is_empty.ensures.0 c.loop-self-test.false in
     stored_end g.S.Store.tells g.S.Store.view part c.loop-self.self past c.loop-self.steps.steps c.store.result
     c.store.new.self c.loop-self.waiting came lapses c.store.ensures.rest none c.store.ensures.state
     (c.loop-self.invariant.works part past came lapses so)
