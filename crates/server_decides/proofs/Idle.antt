@@ -16,13 +16,14 @@ use Rattle.server_says.proofs.Chains.{goes_more, goes_none}
 use Rattle.server_tables.specs.Judging.{first_ripe}
 use Rattle.server_tables.specs.declared.pending.Pending.{Pending}
 use Rattle.server_tables.specs.declared.tables.Tables.{Tables}
-use Rattle.server_says.specs.Taking.{Whether, made}
+use Rattle.server_says.specs.Taking.{made}
 use Rattle.server_says.specs.Draft.{Draft}
-use Rattle.server_decides.specs.Deciding.{Decides, IsDueOf, IsPlaced, NoneDue, is_waiting, outlook_at}
+use Rattle.server_decides.specs.Deciding.{Decides, IsDueOf, IsPlaced, NoneDue, is_passed, is_waiting, outlook_at}
 use Rattle.server_decides.specs.Finishing.{IsFinished}
 use Rattle.server_decides.specs.Running.{making}
 use Rattle.server_decides.specs.Sending.{HasSentAll, IsSending, Sends, looking}
 use Rattle.server_decides.specs.Serving.{IsServed}
+use Rattle.server_decides.proofs.Parts.{whether_yes}
 use Rattle.server_decides.proofs.Steps.{sends_passed}
 
 abbrev Waits : Tables → Pending → Type 0
@@ -44,22 +45,15 @@ waits_in x (q ∷ qs) h p (inr i) = waits_in x qs (both_true _ _ h).1 p i
 -- nothing is due of one that has to wait, and didn't just come
 due_none : (x : Tables) (state : StoreState) (p : Pending) (r : Request) → Waits x p → IsDueOf x state p false None r
 due_none x state p (Asks fetch) w = refl
-due_none x state p (Changes change) w = by (is_waiting (outlook_at x p.number)) w
-  where
-    by : (b : Bool) → b ≡ true → Whether (b && true) (None ≡ None) _
-    by true e = refl
-    by false e = absurd (cc)
+due_none x state p (Changes change) w =
+    whether_yes (is_passed x p false) _ _ (ap (λ (b : Bool). b && true) w) refl
 
 pub none_due : (x : Tables) (state : StoreState) (ps : List Pending) → AllWait x ps → NoneDue x state None ps
 none_due x state ps h p i = due_none x state p p.wanted.request (waits_in x ps h p i)
 
 -- it isn't answered
 sending_none : (x : Tables) (state : StoreState) (p : Pending) → Waits x p → IsSending x state p None
-sending_none x state p w = by (is_waiting (outlook_at x p.number)) w
-  where
-    by : (b : Bool) → b ≡ true → Whether b (None ≡ None) _
-    by true e = refl
-    by false e = absurd (cc)
+sending_none x state p w = whether_yes (is_waiting (outlook_at x p.number)) _ _ w refl
 
 placed_in : (ps : List Pending) (at : ℕ) (p : Pending) → IsPlaced ps at p → In p ps
 placed_in [] at p h = let l = h.0 in absurd (omega (arith, l))

@@ -102,7 +102,7 @@ returns-then-is_idle-clause-taken g c tells limited =
       taken = λ user known. c.in_ok-gather_message.ensures.taken tells user;
       stored = λ again. c.in_ok-gather_message.ensures.state tells;
       served = after;
-      finished = c.in_ok-finish_idle-then-is_idle.ensures.finished (state_after mid news) after;
+      finished = c.in_ok-finish_idle.ensures.finished (state_after mid news) after;
     }
 
 pub returns-clause-gives : goal.returns-clause-gives
@@ -122,7 +122,7 @@ returns-then-is_idle-clause-gives g c =
 
 pub returns-then-is_idle-clause-served : goal.returns-then-is_idle-clause-served
 returns-then-is_idle-clause-served g c =
-    c.in_ok-finish_idle-then-is_idle.ensures.served (g.S.Store.view c.gather_message.new.keeper.store).state
+    c.in_ok-finish_idle.ensures.served (g.S.Store.view c.gather_message.new.keeper.store).state
     (heard_served c.args.tables.now c.gather_message.new.tables c.args.draft.now c.gather_message.new.draft
     c.args.message.now (g.S.Store.view c.args.keeper.now.store) (g.S.Store.view c.gather_message.new.keeper.store)
     c.requires.served c.requires.given c.in_ok-gather_message.ensures.heard c.in_ok-gather_message.ensures.counted
@@ -149,7 +149,7 @@ returns-then-is_idle-clause-says g c sound =
     let heard : SaysOn x d t a = heard_says x t d a c.args.message.now sound c.requires.given
     c.in_ok-gather_message.ensures.heard in
     says_then x t c.finish_idle.new.tables d a c.finish_idle.new.draft heard
-    (c.in_ok-finish_idle-then-is_idle.ensures.says heard.sound)
+    (c.in_ok-finish_idle.ensures.says heard.sound)
 
 pub returns-clause-stays : goal.returns-clause-stays
 returns-clause-stays g c = on_ok_is c.finish.result _ (inl c.in_ok-store_all.ensures.none)
