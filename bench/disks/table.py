@@ -66,7 +66,7 @@ ROWS = [
     ("what `gen 7 16 400` makes, as a script (6,400 calls)", GEN, None),
     ("one read, on the disk that this left", looks(), GEN),
     ("62 files of 64 KiB", b"".join(full_files()), None),
-    ("992 give-backs of one host, at its end, on the disk that has its files", WRITTEN, MADE),
+    ("112 give-backs of one host, at its end, on the disk that has its files", WRITTEN, MADE),
 ]
 
 
