@@ -42,7 +42,7 @@ def full_files(files=62):
 
 
 def files_in_filesets(line, filesets=16, files=7):
-    """So many filesets, and a line of one host, which may cache all that it takes, for each of so many files in each."""
+    """So many filesets, and a line of one host, whose cache has room, for each of so many files in each."""
     yield b"servers 1\nuser u g\nhost c1 u 256\n"
     yield from (b"fileset k%d s1 64 u\n" % k for k in range(filesets))
     yield b"begin\n"
