@@ -41,16 +41,6 @@ def full_files(files=62):
             yield b"c1 write /home/f%d %d %s\n" % (f, piece * 1024, b"x" * 1024)
 
 
-def files_in_filesets(line, filesets=16, files=7):
-    """So many filesets, and a line of one host, whose cache has room, for each of so many files in each."""
-    yield b"servers 1\nuser u g\nhost c1 u 256\n"
-    yield from (b"fileset k%d s1 64 u\n" % k for k in range(filesets))
-    yield b"begin\n"
-    for f in range(files):
-        for k in range(filesets):
-            yield line % (b"/k%d/f%d" % (k, f))
-
-
 def reversed_clones():
     """9,990 lines that clone clones, each before the line that places its source."""
     yield HEAD

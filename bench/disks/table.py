@@ -9,7 +9,7 @@ import tempfile
 import time
 
 sys.path.insert(0, os.path.join(os.path.dirname(os.path.abspath(__file__)), ".."))
-from scripts import files_in_filesets, full_files, generated  # noqa: E402
+from scripts import full_files, generated  # noqa: E402
 
 PROGRAM = sys.argv[1]
 RUNS = 3
@@ -59,14 +59,11 @@ def syncs(script, first):
 
 
 GEN = b"".join(generated(7, 16, 400))
-MADE = b"".join(files_in_filesets(b"c1 create %s\n"))
-WRITTEN = b"".join(files_in_filesets(b"c1 write %s 0 text\n"))
 ROWS = [
     ("an empty fileset, on a new disk", HEAD + b"host c1 u\nfileset home s1 64 u\nbegin\n", None),
     ("what `gen 7 16 400` makes, as a script (6,400 calls)", GEN, None),
     ("one read, on the disk that this left", looks(), GEN),
     ("62 files of 64 KiB", b"".join(full_files()), None),
-    ("112 give-backs of one host, at its end, on the disk that has its files", WRITTEN, MADE),
 ]
 
 
