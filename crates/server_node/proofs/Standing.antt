@@ -323,11 +323,11 @@ module _ {S : Type 0} (tells : Type 0) (view : S → View) (part : Part) (n : Se
         let t = told_flag n.lines.told flag (subst (λ (d : Deed). may_go n.lines.told d ≡ true) deed slot.1) in
         subst (WasTold past) (sym (name_same flag t.0 t.2)) (so.told t.0 t.1)
 
-    module _ (y : Exporter) (keeper : Keeper S) (next : StoreState) (s : Step) (says : Says x.tables s)
+    module _ (y : Exporter) (keeper : Keeper S) (later : StoreState) (s : Step) (says : Says x.tables s)
         (same : IsSame x y)
         (meet : tells → ServerMeets script run.start v own (doings_in run v own) s)
         (at_then : tells → IsAt (after_step s (doings_in run v own)) (kept_in run v (s ∷ own)) y)
-        (keeps_then : tells → Keeps y.tables (kept_in run v (s ∷ own)) next)
+        (keeps_then : tells → Keeps y.tables (kept_in run v (s ∷ own)) later)
         (goes : LineGoes (lines_of script part.node) own s)
         (number : (k : ℕ) → s.cause ≡ LineOf k → line.number ≡ k)
         (one : goes_with s.cause ≡ 1) (no_message : message_of s.cause ≡ []) (no_lapse : is_lapse s.cause ≡ false) where
@@ -339,11 +339,11 @@ module _ {S : Type 0} (tells : Type 0) (view : S → View) (part : Part) (n : Se
           (is.1 ∙ sym (number k e)) in
           awaited flag (ap (λ (z : Line). z.deed) (sym equal) ∙ awaits))
 
-      pub after_line : StandsAt tells view next part
+      pub after_line : StandsAt tells view later part
           (record n { exporter = y; keeper = keeper; lines = record n.lines { gone = n.lines.gone + 1 } })
           past (made ++ s ∷ []) came lapses
       after_line =
-          stands_then y keeper next s says same (record n.lines { gone = n.lines.gone + 1 }) came lapses
+          stands_then y keeper later s says same (record n.lines { gone = n.lines.gone + 1 }) came lapses
           (push_own tells part past made s line_keeps (λ t. meets s (meet (told_of t))) came
           lapses no_message no_lapse so.kept)
           at_then keeps_then refl (omega arith) (let more = more_lines in omega arith) so.told
