@@ -1,3 +1,4 @@
 pub mod Rest
 pub mod Waiting
 pub mod Resting
+pub mod Ended
