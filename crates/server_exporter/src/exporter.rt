@@ -34,8 +34,8 @@ use base_types::{Items, NoMemory, ServerId};
 use message_types::Message;
 use run_rules::{Cause, Step};
 use server_decides::{
-    Draft, ExporterFault, Keeper, bare, begin_epoch, finish, hail_step, lapse_step, take_and_finish,
-    take_or_gather,
+    Draft, ExporterFault, Keeper, bare, begin_epoch, finish, hail_step, lapse_step,
+    take_and_finish, take_or_gather,
 };
 use server_tables::Tables;
 use std::alloc::Global;

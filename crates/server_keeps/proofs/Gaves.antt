@@ -108,6 +108,7 @@ held_elsewhere slots id other host g apart =
     both a p q =
         let same : id.0 ≡ other.0 = sym (eqb-true a.fileset.id.0 id.0 p) ∙ eqb-true a.fileset.id.0 other.0 q in
         false≢true (sym apart ∙ subst (λ n. (id.0 == n) ≡ true) same (eq-eqb id.0 id.0 refl))
+
     there : (o : Option Holding) → held_so (is_of id) slots ≡ o → held_so (is_of other) slots ≡ o
         → option_map (held_noted host g) o ≡ o
     there None e f = refl
@@ -126,6 +127,7 @@ held_elsewhere slots id other host g apart =
         found_beside (is_of id) (held_noted host g) (λ h. refl) slots (slot_so (is_of other) slots)
         (λ same. false≢true (sym e ∙ subst (λ n. (slot_so (is_of id) slots == n) ≡ true) same
         (eq-eqb (slot_so (is_of id) slots) (slot_so (is_of id) slots) refl)))
+
 noted_elsewhere : (state : StoreState) (id other : FilesetId) (host : HostId) (g : Record → Record)
     → (id.0 == other.0) ≡ false → records_of (with_record state other host g) id ≡ records_of state id
 noted_elsewhere state id other host g apart = by (is_server other) refl (is_server id) refl

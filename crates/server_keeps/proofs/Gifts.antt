@@ -236,7 +236,6 @@ pub gift_still : (state : StoreState) (host : HostId) (number : ℕ) (fid : Fid)
 unfolding act_done give_outcome
 gift_still state host number fid pieces given few other = by (applied_before state fid.fileset host number)
   where
-
     by : (o : Option Done)
         → kind (status_told (unless_before o state (fresh Accepted
         (with_record (with_held state (slot_so (is_of fid.fileset) state.slots) (held_given fid pieces given))
