@@ -31,3 +31,4 @@ pub mod Shutting
 pub mod Closing
 pub mod Ending
 pub mod Rested
+pub mod Worked
