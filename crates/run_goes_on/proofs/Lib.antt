@@ -25,6 +25,7 @@ pub mod Numbering
 pub mod Requests
 pub mod Meaning
 pub mod Standing
+pub mod Deciding
 pub mod Unblocking
 pub mod Shutting
 pub mod Closing

@@ -345,15 +345,25 @@ module _ (script : Script) (journal : Journal) (r : IsRun script journal) (ended
     | inr (inr k) ↦ (let v = k.1 in v.2 (byed host part can.free.live v.0 v.1))
   ]
 
+  -- nor after a flush
+  none_after : (v : ServerId) (w : Wanted) → IsQueued (Flushes ∷ doings_of (firsts v) v run) w → ⊥
+  none_after v w (inl made) = let z : Flushes ≡ MakesWant w = made in cc
+  none_after v w (inr k) = no_want v w k.0
+
   module _ (flushed : AllIsFlushed script journal) where
     rests : RunRests script journal
     rests = record {
       lines = λ node line part can. no_line node part line can.next;
       evictions = λ host part live. evicts_none host part live (limit_of script.roster host);
       ends = can_end_none;
-      servers = λ server part. record {
+      servers = λ start server is part. record {
         flushed = λ token. flushed server token part;
-        decided = λ w waits can. absurd (no_want server w waits);
+        decided = record {
+          news = λ h n request new. absurd (let z : Flushed ≡ Came new.taken.0.0 = new.taken.0.1 in cc);
+          refused = λ w change refusal waits asks refused can. none_after server w waits;
+          effects = λ w change waits asks effect accepted can. none_after server w waits;
+          pinned = λ w change waits asks row accepted can. none_after server w waits;
+        };
       };
     }
 
