@@ -80,8 +80,7 @@ pub fn requests_stand_as_wants()
 {}
 
 /// In a run that rests, in which no move of a fileset waits, no want waits: each token in the way of the first one came
-/// back, or is pinned. Refused: a token in the way that isn't asked back; wants that wait for one another; a Fetch that
-/// isn't granted when it could be, a lock, an open or an entering that isn't answered.
+/// back, or is pinned. Refused: a token in the way that isn't asked back; wants that wait for one another.
 pub fn no_wants_wait()
     ensures { NoWantsWait }
 {}
