@@ -5,3 +5,4 @@ pub mod Adding
 pub mod Going
 pub mod Emptied
 pub mod Starting
+pub mod Naming

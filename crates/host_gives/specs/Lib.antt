@@ -1,4 +1,5 @@
 pub mod Counters
 pub mod Giving
 pub mod Slots
+pub mod Named
 pub mod GiveLaws

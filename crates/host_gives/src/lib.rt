@@ -5,6 +5,7 @@
 mod counters;
 mod gives;
 mod laws;
+mod named;
 mod slots;
 
 pub use gives::Gives;
