@@ -20,7 +20,7 @@ use Rattle.host_tables.specs.Tables.{content, held_of, updates_status}
 use Rattle.host_tables.specs.Updates.{home_at, with_given}
 use Rattle.host_tables.specs.declared.calls.Leaving.{Leaving}
 use Rattle.host_tables.specs.declared.draft.Draft.{Draft}
-use Rattle.host_tables.specs.declared.files.Given.{Given}
+use Rattle.host_lengths.specs.declared.given.Given.{Given}
 use Rattle.host_tables.specs.declared.tables.Tables.{Tables}
 use Rattle.message_types.specs.Soundness.{AreFileBytes, PiecesRise}
 use Rattle.message_types.specs.declared.giving.Ends.{Ends}

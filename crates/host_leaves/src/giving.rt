@@ -26,7 +26,8 @@ use crate::sending::{has_fileset, message_to, push_once, say};
 use base_types::{Fid, FilesetId, Items, NoMemory, Plain, Span};
 use host_cache::Cache;
 use host_dirty::Dirty;
-use host_tables::{Draft, Given, Leaving, Tables, home, put_given};
+use host_lengths::Given;
+use host_tables::{Draft, Leaving, Tables, home};
 use message_types::{Body, Ends, Give, Message, Named};
 use run_rules::{Leave, Why};
 use std::alloc::Global;
@@ -398,7 +399,7 @@ fn note_given(
         length,
         known: false,
     };
-    put_given(&mut tables.lengths, given)?;
+    tables.lengths.put(given)?;
     Ok(Some(length))
 }
 

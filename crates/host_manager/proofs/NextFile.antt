@@ -38,7 +38,7 @@ use Rattle.host_tables.specs.Tables.{content, held_of, is_updating, length_given
 use Rattle.host_tables.specs.Updates.{home_at}
 use Rattle.host_tables.specs.declared.calls.Leaving.{Leaving}
 use Rattle.host_tables.specs.declared.draft.Draft.{Draft}
-use Rattle.host_tables.specs.declared.files.Given.{Given}
+use Rattle.host_lengths.specs.declared.given.Given.{Given}
 use Rattle.host_tables.specs.declared.tables.Tables.{Tables}
 use Rattle.message_types.specs.declared.giving.AppliedGive.{AppliedGive}
 use Rattle.message_types.specs.declared.giving.Give.{Give}

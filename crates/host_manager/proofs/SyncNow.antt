@@ -58,7 +58,7 @@ use Rattle.host_tables.specs.Tidy.{IsOutgoing, IsTidy, IsTidyGive, IsTidyToken}
 use Rattle.host_tables.specs.Updates.{home_at}
 use Rattle.host_tables.specs.declared.calls.Leaving.{Leaving}
 use Rattle.host_tables.specs.declared.draft.Draft.{Draft}
-use Rattle.host_tables.specs.declared.files.Given.{Given}
+use Rattle.host_lengths.specs.declared.given.Given.{Given}
 use Rattle.host_tables.specs.declared.tables.Tables.{Tables}
 use Rattle.message_types.specs.Soundness.{IsCall, IsEnd, IsServer, IsSound}
 use Rattle.message_types.specs.declared.giving.Ends.{Ends}

@@ -1,6 +1,5 @@
 //! What a host learns from servers.
 ghost use Rattle.std.specs.Prelude.{◌≡◌, ◌==◌, false, filter, None, not, option_copied, option_map, OnOk};
-ghost use Rattle.base_types.specs.Ids.{same_fid};
 ghost use Rattle.host_asks.specs.Asking.{doing};
 ghost use Rattle.host_cache.specs.Holding.{has_id};
 ghost use Rattle.host_cache.specs.Seen.{seen};
@@ -14,9 +13,8 @@ ghost use Rattle.message_types.specs.declared.giving.Ends.{Ends};
 use base_types::{Fid, Items, NoMemory, ServerId};
 use host_cache::Cache;
 use host_leaves::{is_length_update, push_once};
-use host_tables::{
-    Draft, Floor, Given, Leaving, Site, Tables, floor_of, home, mark_known, put_floor, put_site,
-};
+use host_lengths::Lengths;
+use host_tables::{Draft, Floor, Leaving, Site, Tables, floor_of, home, put_floor, put_site};
 use message_types::{AppliedGive, Body, Bring, Grant, Message};
 use run_rules::Asked;
 use token_types::Token;
@@ -35,7 +33,7 @@ pub(crate) fn learn_given(
         return Ok(());
     };
     forget_leaving(&mut tables.leaving, applied);
-    mark_known(&mut tables.lengths, applied.fileset, applied.number);
+    tables.lengths.mark_known(applied.fileset, applied.number);
     end_call(tables, &message);
     drop(message);
     note_due(tables, draft, applied, is_first)
@@ -234,24 +232,12 @@ fn add_token(cache: &mut Cache, token: &Token, grant: Option<&Grant>) -> Result<
 }
 
 // The length that was given back last counts no more, where a token is for update of a file's status.
-fn forget_length(lengths: &mut Items<Given>, token: &Token)
+fn forget_length(lengths: &mut Lengths, token: &Token)
     ensures { lengths.new ≡ without_length token.now lengths.old }
 {
     if is_length_update(token.kind) {
-        forget_lengths_of(lengths, token.fid);
+        lengths.forget(token.fid);
     }
-}
-
-fn forget_lengths_of(lengths: &mut Items<Given>, fid: Fid)
-    ensures { lengths.new ≡ filter (λ given. not (same_fid given.fid fid)) lengths.old }
-{
-    lengths.retain(|given| !is_of(given, fid));
-}
-
-fn is_of(given: &Given, fid: Fid) -> bool
-    ensures { result ≡ same_fid given.now.fid fid }
-{
-    given.fid == fid
 }
 
 /// The epoch of a server rises: the floors of its files begin anew.

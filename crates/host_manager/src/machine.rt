@@ -29,6 +29,7 @@ use host_dirty::Dirty;
 use host_gives::Gives;
 use host_labels::Uses;
 use host_leaves::send_due;
+use host_lengths::Lengths;
 use host_tables::{Draft, Site, Tables, bare_step, new_sites};
 use host_tells::{Last, answer_again};
 use message_types::Message;
@@ -388,7 +389,7 @@ fn new_tables(
         limit,
         cache,
         dirty,
-        lengths: Items::new(alloc),
+        lengths: Lengths::new(alloc),
         uses: Uses::new(alloc),
         gives: Gives::new(alloc),
         leaving: Items::new(alloc),

@@ -23,7 +23,7 @@ use Rattle.host_tables.specs.Tables.{opens_under, own_of}
 use Rattle.host_tables.specs.declared.calls.Home.{Home}
 use Rattle.host_tables.specs.declared.calls.Leaving.{Leaving}
 use Rattle.host_tables.specs.declared.calls.Request.TheVariants.{Change as AChange, Fetch as AFetch}
-use Rattle.host_tables.specs.declared.files.Given.{Given}
+use Rattle.host_lengths.specs.declared.given.Given.{Given}
 use Rattle.host_tables.specs.declared.numbers.Changed.{Changed}
 use Rattle.host_tables.specs.declared.numbers.Fetched.{Fetched}
 use Rattle.host_tables.specs.declared.sites.Site.{Site}

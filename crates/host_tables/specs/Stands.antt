@@ -22,7 +22,7 @@ use Rattle.host_tables.specs.declared.calls.Leaving.{Leaving}
 use Rattle.host_tables.specs.declared.calls.Request.{Request}
 use Rattle.host_tables.specs.declared.calls.Request.TheVariants.{Change as AChange, Fetch as AFetch}
 use Rattle.host_tables.specs.declared.files.Floor.{Floor}
-use Rattle.host_tables.specs.declared.files.Given.{Given}
+use Rattle.host_lengths.specs.declared.given.Given.{Given}
 use Rattle.host_tables.specs.declared.numbers.Changed.{Changed}
 use Rattle.host_tables.specs.declared.numbers.Fetched.{Fetched}
 use Rattle.host_tables.specs.declared.sites.Site.{Site}

@@ -10,6 +10,7 @@ use host_cache::Cache;
 use host_dirty::Dirty;
 use host_gives::Gives;
 use host_labels::Uses;
+use host_lengths::Lengths;
 use host_tables::{Draft, Request, Site, Tables, new_sites};
 use message_types::{Body, Change, Fetch, Revoke};
 use run_rules::Why;
@@ -68,7 +69,7 @@ fn tables_of(alloc: Global, user: User, sites: Items<Site>, cache: Cache) -> Tab
         limit: 4,
         cache,
         dirty: Dirty::new(alloc),
-        lengths: Items::new(alloc),
+        lengths: Lengths::new(alloc),
         uses: Uses::new(alloc),
         gives: Gives::new(alloc),
         leaving: Items::new(alloc),
