@@ -6,3 +6,4 @@ pub mod Going
 pub mod Emptied
 pub mod Starting
 pub mod Naming
+pub mod Left

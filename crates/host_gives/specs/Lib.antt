@@ -2,4 +2,5 @@ pub mod Counters
 pub mod Giving
 pub mod Slots
 pub mod Named
+pub mod Leavings
 pub mod GiveLaws

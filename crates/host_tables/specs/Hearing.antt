@@ -8,7 +8,7 @@ use Rattle.host_tables.specs.Stands.{CallStands, FloorsStand, GivesStand, HomesS
 use Rattle.host_tables.specs.Stands.{RequestStands, SitesStand, Stands}
 use Rattle.host_tables.specs.Tables.{floor_of, length_given, site_at}
 use Rattle.host_tables.specs.declared.calls.Home.{Home}
-use Rattle.host_tables.specs.declared.calls.Leaving.{Leaving}
+use Rattle.host_gives.specs.declared.leavings.Leaving.{Leaving}
 use Rattle.host_tables.specs.declared.calls.Request.{Request}
 use Rattle.host_tables.specs.declared.files.Floor.{Floor}
 use Rattle.host_lengths.specs.declared.given.Given.{Given}

@@ -5,7 +5,7 @@ use Rattle.host_tables.specs.Hearing.{ChangesSite, ClosesCall, ForgetsGives, Ren
 use Rattle.host_tables.specs.Hearing.{with_heard}
 use Rattle.host_tables.specs.Stands.{Stands}
 use Rattle.host_tables.specs.Tables.{floor_of, site_at}
-use Rattle.host_tables.specs.declared.calls.Leaving.{Leaving}
+use Rattle.host_gives.specs.declared.leavings.Leaving.{Leaving}
 use Rattle.host_tables.specs.declared.calls.Request.TheVariants.{Change as AChange, Fetch as AFetch}
 use Rattle.host_tables.specs.declared.files.Floor.{Floor}
 use Rattle.host_lengths.specs.declared.given.Given.{Given}

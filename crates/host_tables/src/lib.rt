@@ -10,7 +10,7 @@ mod numbers;
 mod sites;
 mod tables;
 
-pub use calls::{Home, Leaving, Request, home_of, put_home};
+pub use calls::{Home, Request, home_of, put_home};
 pub use draft::{Draft, bare_step};
 pub use files::{Floor, floor_of, put_floor};
 pub use laws::{tables_laws, updates_law};

@@ -8,7 +8,7 @@ use anyhow::{Result, bail};
 use base_types::{Fid, HostId, Items, Name, NoMemory, ServerId, User};
 use host_cache::Cache;
 use host_dirty::Dirty;
-use host_gives::Gives;
+use host_gives::{Gives, Leavings};
 use host_labels::Uses;
 use host_lengths::Lengths;
 use host_tables::{Draft, Request, Site, Tables, new_sites};
@@ -34,7 +34,7 @@ impl Leaver {
         let sites = new_sites(alloc, SERVERS)?;
         let cache = Cache::new(alloc)?;
         Ok(Leaver {
-            tables: tables_of(alloc, user, sites, cache),
+            tables: tables_of(alloc, user, sites, cache)?,
         })
     }
 
@@ -61,8 +61,9 @@ impl Leaver {
 }
 
 // Tables in which nothing is outstanding.
-fn tables_of(alloc: Global, user: User, sites: Items<Site>, cache: Cache) -> Tables {
-    Tables {
+fn tables_of(alloc: Global, user: User, sites: Items<Site>, cache: Cache) -> Result<Tables> {
+    let leaving = Leavings::new(alloc)?;
+    Ok(Tables {
         alloc,
         host: HostId(1),
         user,
@@ -72,7 +73,7 @@ fn tables_of(alloc: Global, user: User, sites: Items<Site>, cache: Cache) -> Tab
         lengths: Lengths::new(alloc),
         uses: Uses::new(alloc),
         gives: Gives::new(alloc),
-        leaving: Items::new(alloc),
+        leaving,
         ending: None,
         floors: Items::new(alloc),
         sites,
@@ -83,7 +84,7 @@ fn tables_of(alloc: Global, user: User, sites: Items<Site>, cache: Cache) -> Tab
         lost: Items::new(alloc),
         call: None,
         begun: 0,
-    }
+    })
 }
 
 fn step(tables: &mut Tables, draft: &mut Draft, words: &mut Words) -> Result<()> {
