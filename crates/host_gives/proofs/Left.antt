@@ -1,6 +1,7 @@
 -- Tokens that give-backs name, as entries under the give-backs.
-use Rattle.std.proofs.Common.{◌≡◌, ◌≤◌, ◌<◌, ◌+◌, ◌-◌, ◌^◌, ℕ, suc, Bool, true, false, not, cond, ◌&&◌, ◌||◌, ◌==◌, List, [], ◌∷◌}
-use Rattle.std.proofs.Common.{◌++◌, map, length, take, take_all, Option, Some, None, refl, sym, ap, ◌∙◌, subst, arith, is_some}
+use Rattle.std.proofs.Common.{◌≡◌, ◌≤◌, ◌<◌, ◌+◌, ◌-◌, ◌^◌, ℕ, suc, Bool, true, false, not, cond, ◌&&◌, ◌||◌, ◌==◌}
+use Rattle.std.proofs.Common.{List, [], ◌∷◌, ◌++◌, map, length, take, take_all, Option, Some, None, refl, sym, ap, ◌∙◌, subst}
+use Rattle.std.proofs.Common.{arith, is_some}
 use Rattle.std.proofs.Common.{append-nil, append_assoc, get_or}
 use Rattle.std.proofs.lemmas.List.{map_more}
 use Rattle.std.specs.List.{AllByRecursion, IsDistinct, filter, list_any}
@@ -66,15 +67,15 @@ module _ (fileset : FilesetId) (number : ℕ) where
   all_gone : (k : GiveKey) (ts : List Token) → give_eq key k ≡ true → filter stays (map (leaving_at k) ts) ≡ []
   all_gone k [] e = refl
   all_gone k (t ∷ ts) e =
-      ap (λ b. cond (not b) (leaving_at k t ∷ filter stays (map (leaving_at k) ts)) (filter stays (map (leaving_at k) ts)))
-      (by_is k t ∙ e) ∙ all_gone k ts e
+      ap (λ b. cond (not b) (leaving_at k t ∷ filter stays (map (leaving_at k) ts))
+      (filter stays (map (leaving_at k) ts))) (by_is k t ∙ e) ∙ all_gone k ts e
 
   all_stay : (k : GiveKey) (ts : List Token) → give_eq key k ≡ false →
       filter stays (map (leaving_at k) ts) ≡ map (leaving_at k) ts
   all_stay k [] e = refl
   all_stay k (t ∷ ts) e =
-      ap (λ b. cond (not b) (leaving_at k t ∷ filter stays (map (leaving_at k) ts)) (filter stays (map (leaving_at k) ts)))
-      (by_is k t ∙ e) ∙ ap (λ ls. leaving_at k t ∷ ls) (all_stay k ts e)
+      ap (λ b. cond (not b) (leaving_at k t ∷ filter stays (map (leaving_at k) ts))
+      (filter stays (map (leaving_at k) ts))) (by_is k t ∙ e) ∙ ap (λ ls. leaving_at k t ∷ ls) (all_stay k ts e)
 
   none_gone : (es : List (GiveKey × List Token)) → AllByRecursion (λ k. give_eq key k ≡ false) (keys_of es) →
       filter stays (leaving_in es) ≡ leaving_in es
@@ -126,11 +127,13 @@ module _ (id : TokenId) (es rest : List (GiveKey × List Token)) (k : GiveKey) (
       ∙ ap (λ b. list_any (is_leaving id) (leaving_in rest) || b) (any_of id k ts)
 
   pub found_here : list_any (λ token. same_id token.id id) ts ≡ true → list_any (is_leaving id) (leaving_in es) ≡ true
-  found_here e = both ∙ or_true (list_any (is_leaving id) (leaving_in rest)) (list_any (λ token. same_id token.id id) ts) e
+  found_here e =
+      both ∙ or_true (list_any (is_leaving id) (leaving_in rest)) (list_any (λ token. same_id token.id id) ts) e
 
   pub not_here : list_any (λ token. same_id token.id id) ts ≡ false →
       list_any (is_leaving id) (leaving_in es) ≡ list_any (is_leaving id) (leaving_in rest)
-  not_here e = both ∙ or_none (list_any (is_leaving id) (leaving_in rest)) (list_any (λ token. same_id token.id id) ts) e
+  not_here e =
+      both ∙ or_none (list_any (is_leaving id) (leaving_in rest)) (list_any (λ token. same_id token.id id) ts) e
 
 -- ---- from the end on
 pub in_push : (es : List (GiveKey × List Token)) (k : GiveKey) (ts : List Token) →
