@@ -1,6 +1,6 @@
 -- Tokens that give-backs name, as entries under the give-backs.
-use Rattle.std.proofs.Common.{◌≡◌, ◌≤◌, ◌<◌, ◌+◌, ◌-◌, ◌^◌, ℕ, suc, Bool, true, false, not, cond, ◌&&◌, ◌||◌, ◌==◌}
-use Rattle.std.proofs.Common.{List, [], ◌∷◌, ◌++◌, map, length, take, take_all, Option, Some, None, refl, sym, ap, ◌∙◌, subst}
+use Rattle.std.proofs.Common.{◌≡◌, ◌<◌, ◌+◌, ◌-◌, ◌^◌, ℕ, Bool, true, false, not, cond, ◌&&◌, ◌||◌, ◌==◌}
+use Rattle.std.proofs.Common.{List, [], ◌∷◌, ◌++◌, map, length, take, take_all, Some, None, refl, sym, ap, ◌∙◌, subst}
 use Rattle.std.proofs.Common.{arith, is_some}
 use Rattle.std.proofs.Common.{append-nil, append_assoc, get_or}
 use Rattle.std.proofs.lemmas.List.{map_more}
@@ -17,7 +17,7 @@ use Rattle.base_types.specs.declared.ids.FilesetId.{FilesetId}
 use Rattle.token_types.specs.Conflicts.{same_id}
 use Rattle.token_types.specs.declared.token.Token.{Token}
 use Rattle.token_types.specs.declared.token.TokenId.{TokenId}
-use Rattle.host_gives.specs.Leavings.{GiveKey, is_by, is_leaving, leaving_at, leaving_by, leaving_in}
+use Rattle.host_gives.specs.Leavings.{GiveKey, is_by, is_leaving, leaving_at, leaving_in}
 use Rattle.host_gives.specs.declared.leavings.Leaving.{Leaving}
 
 -- how a cache of the least recently used entries compares keys

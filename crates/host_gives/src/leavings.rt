@@ -30,7 +30,7 @@ pub struct Leavings {
 }
 
 impl Model for Leavings {
-    ghost use Rattle.std.specs.Prelude.{List, ◌-◌, ◌^◌};
+    ghost use Rattle.std.specs.Prelude.{List, ◌≡◌, ◌-◌, ◌^◌};
     ghost use Rattle.host_gives.specs.Leavings.{leaving_in};
     ghost use Rattle.host_gives.specs.declared.leavings.Leaving.{Leaving};
 

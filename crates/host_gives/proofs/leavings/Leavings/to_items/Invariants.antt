@@ -3,8 +3,8 @@ use Rattle.host_gives.specs.Leavings.{leaving_in}
 use Rattle.host_gives.proofs.leavings.Leavings.to_items.Given as goal
 
 -- those so far, and those that are left, are all
-abbrev pub invariant-loop-tokens : goal.invariant-loop-tokens
-invariant-loop-tokens l = l.all ++ leaving_in l.gives ≡ l.self
+abbrev pub invariant-loop-key : goal.invariant-loop-key
+invariant-loop-key l = l.all ++ leaving_in l.gives ≡ l.self
 
-abbrev pub decreases-loop-tokens : goal.decreases-loop-tokens
-decreases-loop-tokens l = length l.gives
+abbrev pub decreases-loop-key : goal.decreases-loop-key
+decreases-loop-key l = length l.gives
