@@ -5,8 +5,9 @@ ghost use Rattle.host_asks.specs.Claiming.{is_before, number_at, outstanding_at}
 ghost use Rattle.host_tables.specs.Tables.{held_of};
 
 use base_types::{FilesetId, Items, NoMemory, ServerId};
+use host_gives::Leaving;
 use host_leaves::{push_once, say};
-use host_tables::{Draft, Leaving, Request, Tables};
+use host_tables::{Draft, Request, Tables};
 use message_types::{Body, Change, Outstanding, Reclaim};
 use std::alloc::Global;
 use token_types::Token;
@@ -41,7 +42,8 @@ fn owned_tokens(tables: &Tables) -> Result<Items<Token>, NoMemory>
         ≡ held_of tables.now ++ map (λ left. left.token) tables.now.leaving) }
 {
     let mut tokens = tables.cache.tokens()?;
-    push_leaving(&mut tokens, tables.leaving.as_slice())?;
+    let leaving = tables.leaving.to_items()?;
+    push_leaving(&mut tokens, leaving.as_slice())?;
     Ok(tokens)
 }
 

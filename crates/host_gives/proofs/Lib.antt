@@ -5,3 +5,5 @@ pub mod Adding
 pub mod Going
 pub mod Emptied
 pub mod Starting
+pub mod Naming
+pub mod Left

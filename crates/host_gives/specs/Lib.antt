@@ -1,4 +1,6 @@
 pub mod Counters
 pub mod Giving
 pub mod Slots
+pub mod Named
+pub mod Leavings
 pub mod GiveLaws

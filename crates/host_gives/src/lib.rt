@@ -5,7 +5,10 @@
 mod counters;
 mod gives;
 mod laws;
+mod leavings;
+mod named;
 mod slots;
 
 pub use gives::Gives;
 pub use laws::gives_law;
+pub use leavings::{Leaving, Leavings};

@@ -4,9 +4,11 @@ ghost use Rattle.message_types.specs.declared.message.Message.{Message};
 ghost use Rattle.std.specs.List.{find, list_any, position};
 ghost use Rattle.token_types.specs.Conflicts.{same_id};
 ghost use Rattle.host_gives.specs.Giving.{counted, give_of, is_numbered, is_of, is_of_file, names, number_of, without};
+ghost use Rattle.host_gives.specs.Named.{AreNamed};
 ghost use Rattle.host_gives.specs.Slots.{AreStarts, IsStart, held_in, holds, is_start, start_of};
 
 use crate::counters::{Counter, set_last};
+use crate::named::Named;
 use base_types::{Fid, FilesetId, Items, NoMemory, Plain};
 use message_types::{Body, Give, Message};
 use std::alloc::Global;
@@ -29,18 +31,21 @@ pub(crate) struct Slots {
     gaps: usize,
     /// Where a fileset's messages are looked for; those of others from the first slot on.
     starts: Items<Start>,
+    /// The tokens that they name, and maybe some that were named.
+    named: Named,
 }
 
 impl Model for Slots {
     ghost use Rattle.std.specs.Prelude.{List};
     ghost use Rattle.message_types.specs.declared.message.Message.{Message};
+    ghost use Rattle.host_gives.specs.Named.{AreNamed};
     ghost use Rattle.host_gives.specs.Slots.{AreStarts, held_in};
 
     ghost Value = { List Message };
 
     ghost view = { λ s. held_in s.slots };
 
-    ghost invariant = { λ s. AreStarts s.slots s.starts };
+    ghost invariant = { λ s. AreStarts s.slots s.starts × AreNamed s.slots s.named };
 }
 
 impl Slots {
@@ -52,6 +57,7 @@ impl Slots {
             slots: Items::new(alloc),
             gaps: 0,
             starts: Items::new(alloc),
+            named: Named::new(alloc),
         }
     }
 
@@ -66,6 +72,7 @@ impl Slots {
         ensures err { OnErr result (self.new ≡ self.old) }
         ensures err_counts { OnErr result (counters.new ≡ counters.old) }
     {
+        self.named.note(give)?;
         push_counted(&mut self.slots, give, counters)
     }
 
@@ -95,6 +102,7 @@ impl Slots {
         self.gaps = close_gaps(
             &mut self.slots,
             &mut self.starts,
+            &mut self.named,
             self.gaps.saturating_add(1),
         );
         taken
@@ -109,11 +117,10 @@ impl Slots {
     }
 
     /// Whether one names a token.
-    #[tactic(auto, using(crate::proofs::Emptied::any_held))]
     pub(crate) fn names(&self, id: TokenId) -> bool
         ensures { result ≡ list_any (names id) self.now }
     {
-        any_names(self.slots.as_slice(), id)
+        self.named.has(id) && any_names(self.slots.as_slice(), id)
     }
 
     /// Whether one is of a file.
@@ -318,15 +325,22 @@ fn place_of(starts: &[Start], fileset: FilesetId) -> Option<usize>
 }
 
 // Lets the empty slots go, where so many are that most are empty. Answers how many are left.
-fn close_gaps(slots: &mut Items<Option<Message>>, starts: &mut Items<Start>, gaps: usize) -> usize
+fn close_gaps(
+    slots: &mut Items<Option<Message>>,
+    starts: &mut Items<Start>,
+    named: &mut Named,
+    gaps: usize,
+) -> usize
     ensures held { held_in slots.new ≡ held_in slots.old }
     ensures starts { AreStarts slots.old starts.old → AreStarts slots.new starts.new }
+    ensures named { AreNamed slots.old named.old → AreNamed slots.new named.new }
 {
     if gaps <= slots.len() / 2 {
         return gaps;
     }
     let_go(slots);
     starts.truncate(0);
+    named.renew(slots.as_slice());
     0
 }
 

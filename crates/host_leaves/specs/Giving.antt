@@ -18,9 +18,9 @@ use Rattle.host_leaves.specs.Owning.{dirty_length}
 use Rattle.host_leaves.specs.Sending.{message_to, saying, with_once}
 use Rattle.host_tables.specs.Tables.{content, held_of, updates_status}
 use Rattle.host_tables.specs.Updates.{home_at, with_given}
-use Rattle.host_tables.specs.declared.calls.Leaving.{Leaving}
+pub use Rattle.host_gives.specs.Leavings.{leaving_by}
 use Rattle.host_tables.specs.declared.draft.Draft.{Draft}
-use Rattle.host_tables.specs.declared.files.Given.{Given}
+use Rattle.host_lengths.specs.declared.given.Given.{Given}
 use Rattle.host_tables.specs.declared.tables.Tables.{Tables}
 use Rattle.message_types.specs.Soundness.{AreFileBytes, PiecesRise}
 use Rattle.message_types.specs.declared.giving.Ends.{Ends}
@@ -58,10 +58,6 @@ pub record GivesSo (m : Tables) (fid : Fid) (giving leaving : List Token) (give 
   pub pieces : AreLeft m fid giving leaving give.pieces
   pub length : give.length ≡ dirty_length m fid
   pub ends : give.ends ≡ None
-
--- the tokens of a give-back are on their way
-abbrev pub leaving_by : FilesetId → ℕ → Token → Leaving
-leaving_by fileset number token = record { fileset = fileset; number = number; token = token }
 
 -- the lengths that were given back, with that of a give-back
 abbrev pub with_length_of : Fid → ℕ → Option ℕ → List Given → List Given

@@ -16,7 +16,8 @@ use Rattle.host_leaves.specs.Sending.{saying, sending_give, with_once}
 use Rattle.host_leaves.specs.declared.revoking.Sorted.{Sorted}
 use Rattle.host_tables.specs.Tables.{floor_of, held_of}
 use Rattle.host_tables.specs.Updates.{home_at, with_floor}
-use Rattle.host_tables.specs.declared.calls.Leaving.{Leaving}
+pub use Rattle.host_gives.specs.Leavings.{is_leaving}
+use Rattle.host_gives.specs.declared.leavings.Leaving.{Leaving}
 use Rattle.host_tables.specs.declared.draft.Draft.{Draft}
 use Rattle.host_tables.specs.declared.tables.Tables.{Tables}
 use Rattle.message_types.specs.declared.message.Body.TheVariants.{Kept}
@@ -32,10 +33,7 @@ abbrev pub with_raised : Fid → ℕ → Tables → Tables
 with_raised fid stamp m = if nat_lt (floor_of m.floors fid) stamp
     then record m { floors = with_floor (record { fid = fid; stamp = stamp }) m.floors } else m
 
--- whether a give-back names a token, and the filesets whose outstanding one does
-abbrev pub is_leaving : TokenId → Leaving → Bool
-is_leaving id left = same_id left.token.id id
-
+-- the filesets whose outstanding give-back names a token
 abbrev pub with_given : Tables → TokenId → List FilesetId → Leaving → List FilesetId
 with_given m id filesets left =
     if is_leaving id left && is_outstanding m.gives left.fileset left.number then with_once filesets left.fileset

@@ -17,7 +17,7 @@ ghost use Rattle.host_leaves.specs.Dirtying.{is_dirty_under, spans_within};
 ghost use Rattle.host_leaves.specs.Giving.{AreCovered, AreDirty, AreGiven, AreLeft, AreSeen, CleansSo, Drops, GivesSo};
 ghost use Rattle.host_leaves.specs.Giving.{Gives, GivesWhere, Leaves, LeavesDirty, LeavesGiven, LeavesWhere};
 ghost use Rattle.host_leaves.specs.Giving.{bytes_seen, has_to_give, ids_of, returning};
-ghost use Rattle.host_leaves.specs.Giving.{leaves_by, leaving_by, making, noting, noting_due, piece_at, returned_ids};
+ghost use Rattle.host_leaves.specs.Giving.{leaves_by, making, noting, noting_due, piece_at, returned_ids};
 ghost use Rattle.host_leaves.specs.Giving.{shown_without, with_give};
 
 use crate::dirtying::{cover_left, dirty_left, is_dirty_under, names, spans_within};
@@ -26,7 +26,8 @@ use crate::sending::{has_fileset, message_to, push_once, say};
 use base_types::{Fid, FilesetId, Items, NoMemory, Plain, Span};
 use host_cache::Cache;
 use host_dirty::Dirty;
-use host_tables::{Draft, Given, Leaving, Tables, home, put_given};
+use host_lengths::Given;
+use host_tables::{Draft, Tables, home};
 use message_types::{Body, Ends, Give, Message, Named};
 use run_rules::{Leave, Why};
 use std::alloc::Global;
@@ -388,7 +389,7 @@ fn note_given(
     ensures after { IfOk result (λ length. tables.new
         ≡ noting tables.old fid number length tokens.now) }
 {
-    note_leaving(&mut tables.leaving, fid.fileset, number, tokens)?;
+    tables.leaving.add(fid.fileset, number, tokens)?;
     let Some(length) = dirty_length(tables, fid) else {
         return Ok(None);
     };
@@ -398,27 +399,8 @@ fn note_given(
         length,
         known: false,
     };
-    put_given(&mut tables.lengths, given)?;
+    tables.lengths.put(given)?;
     Ok(Some(length))
-}
-
-// Adds tokens to those that a give-back names.
-fn note_leaving(
-    leaving: &mut Items<Leaving>,
-    fileset: FilesetId,
-    number: u64,
-    tokens: &[Token],
-) -> Result<(), NoMemory>
-    ensures { OnOk result (leaving.new ≡ leaving.old ++ map (leaving_by fileset number) tokens.now) }
-{
-    for token in tokens {
-        leaving.push(Leaving {
-            fileset,
-            number,
-            token: *token,
-        })?;
-    }
-    Ok(())
 }
 
 // Notes a give-back that is made: it is to be sent where it is outstanding.

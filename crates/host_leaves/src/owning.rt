@@ -16,7 +16,8 @@ ghost use Rattle.tree_laws.specs.Parts.Part.{Size};
 use base_types::{Fid, Name, Span};
 use host_cache::Cache;
 use host_labels::{Labelled, Uses};
-use host_tables::{Given, Tables, given_length};
+use host_lengths::Lengths;
+use host_tables::Tables;
 use token_types::{Kind, Token, TokenId};
 
 /// Whether a token of this kind is of a lock, and not of an open file.
@@ -197,7 +198,7 @@ pub(crate) fn is_length_dirty(tables: &Tables, fid: Fid) -> bool
     ensures { result ≡ is_length_dirty (held_of tables.now) tables.now.lengths (content tables.now.cache) fid }
 {
     has_update(&tables.cache, fid)
-        && !is_length_clean(tables.lengths.as_slice(), fid, length_seen(tables, fid))
+        && !is_length_clean(&tables.lengths, fid, length_seen(tables, fid))
 }
 
 // Whether a token for update of the status of a file is held.
@@ -215,11 +216,11 @@ fn updates_any(tokens: &[Token]) -> bool
 }
 
 // Whether a length of a file was given back last, and is known as applied.
-fn is_length_clean(lengths: &[Given], fid: Fid, length: u32) -> bool
+fn is_length_clean(lengths: &Lengths, fid: Fid, length: u32) -> bool
     ensures { result ≡ option_map_or (λ given. (given.length == length) && given.known)
         (length_given lengths.now fid) false }
 {
-    match given_length(lengths, fid) {
+    match lengths.given(fid) {
         Some(given) => given.length == length && given.known,
         None => false,
     }

@@ -6,7 +6,7 @@ ghost use Rattle.host_cache.specs.Holding.{is_id, is_status, tokens_of};
 ghost use Rattle.host_gives.specs.Giving.{is_outstanding, number_of};
 ghost use Rattle.host_leaves.specs.Giving.{AreCovered};
 ghost use Rattle.host_leaves.specs.Revoking.{Answers, AreHeld, AreHeldBeside, AreUsed, LeaveAll, LeavesFile, Revokes};
-ghost use Rattle.host_leaves.specs.Revoking.{covers_status, has_file, has_id, is_leaving, is_lost, keeping_all};
+ghost use Rattle.host_leaves.specs.Revoking.{covers_status, has_file, has_id, is_lost, keeping_all};
 ghost use Rattle.host_leaves.specs.Revoking.{keeping_file, none_sorted, of_file, others_of, pinned, sending_given};
 ghost use Rattle.host_leaves.specs.Revoking.{sorted_by, sorting, sorting_held, with_given, with_lost, with_lost_where};
 ghost use Rattle.host_leaves.specs.Revoking.{with_raised};
@@ -16,8 +16,9 @@ use crate::owning::is_used;
 use crate::sending::{push_once, say, send_give};
 use base_types::{Fid, FilesetId, Items, NoMemory};
 use host_cache::Cache;
+use host_gives::Leaving;
 use host_labels::Uses;
-use host_tables::{Draft, Floor, Leaving, Tables, floor_of, home, put_floor};
+use host_tables::{Draft, Floor, Tables, floor_of, home, put_floor};
 use host_walk::status_need;
 use message_types::{Body, Message, Named, Revoke};
 use run_rules::Why;
@@ -120,7 +121,18 @@ fn sort_one(tables: &Tables, sorted: &mut Sorted, id: TokenId) -> Result<(), NoM
 fn note_given(tables: &Tables, given: &mut Items<FilesetId>, id: TokenId) -> Result<(), NoMemory>
     ensures { OnOk result (given.new ≡ fold (with_given tables.now id) given.old tables.now.leaving) }
 {
-    let leaving = tables.leaving.as_slice();
+    let leaving = tables.leaving.to_items()?;
+    note_all(tables, given, id, leaving.as_slice())
+}
+
+fn note_all(
+    tables: &Tables,
+    given: &mut Items<FilesetId>,
+    id: TokenId,
+    leaving: &[Leaving],
+) -> Result<(), NoMemory>
+    ensures { OnOk result (given.new ≡ fold (with_given tables.now id) given.old leaving.now) }
+{
     for left in leaving {
         note_left(tables, given, id, left)?;
     }
@@ -147,7 +159,7 @@ fn sort_held(tables: &Tables, sorted: &mut Sorted, id: TokenId) -> Result<(), No
         ≡ sorting_held tables.now id (find (is_id id) tables.now.cache.held) sorted.old) }
 {
     let Some(held) = tables.cache.find(id) else {
-        if is_leaving(tables.leaving.as_slice(), id) {
+        if tables.leaving.has(id) {
             return Ok(());
         }
         return sorted.back.push(id);
@@ -156,13 +168,6 @@ fn sort_held(tables: &Tables, sorted: &mut Sorted, id: TokenId) -> Result<(), No
         return sorted.kept.push(held.token);
     }
     sorted.left.push(held.token)
-}
-
-// Whether a give-back names a token.
-fn is_leaving(leaving: &[Leaving], id: TokenId) -> bool
-    ensures { result ≡ list_any (is_leaving id) leaving.now }
-{
-    leaving.iter().any(|left| left.token.id == id)
 }
 
 fn is_outstanding(tables: &Tables, fileset: FilesetId, number: u64) -> bool

@@ -19,7 +19,7 @@ use Rattle.host_tables.specs.Tables.{held_of, site_at}
 use Rattle.host_tables.specs.Tidy.{IsOutgoing, IsTidy, IsTidyToken}
 use Rattle.host_tables.specs.Updates.{home_at}
 use Rattle.host_tables.specs.WholeSteps.{RepeatsFrom, moved_of}
-use Rattle.host_tables.specs.declared.calls.Leaving.{Leaving}
+use Rattle.host_gives.specs.declared.leavings.Leaving.{Leaving}
 use Rattle.host_tables.specs.declared.calls.Request.{Request}
 use Rattle.host_tables.specs.declared.calls.Request.TheVariants.{Change as AChange, Fetch as AFetch}
 use Rattle.host_tables.specs.declared.sites.Site.{Site}

@@ -22,7 +22,7 @@ use Rattle.host_tables.specs.HeardUsed.{AfterDone, TakesAnew}
 use Rattle.host_tables.specs.Stands.{CacheStands}
 use Rattle.host_tables.specs.Tables.{content, floor_of, length_given, updates_status}
 use Rattle.host_tables.specs.declared.draft.Draft.{Draft}
-use Rattle.host_tables.specs.declared.files.Given.{Given}
+use Rattle.host_lengths.specs.declared.given.Given.{Given}
 use Rattle.host_tables.specs.declared.tables.Tables.{Tables}
 use Rattle.message_types.specs.Soundness.{Each, IsBody, IsBrought, IsDone, IsGrant, IsSound}
 use Rattle.message_types.specs.declared.message.Body.TheVariants.{Done, Grant}

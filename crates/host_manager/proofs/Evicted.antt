@@ -28,7 +28,7 @@ use Rattle.host_tables.specs.Stands.{Stands}
 use Rattle.host_tables.specs.Tables.{held_of, site_at}
 use Rattle.host_tables.specs.Tidy.{IsTidy, IsTidyGive, IsTidyToken}
 use Rattle.host_tables.specs.Updates.{home_at}
-use Rattle.host_tables.specs.declared.calls.Leaving.{Leaving}
+use Rattle.host_gives.specs.declared.leavings.Leaving.{Leaving}
 use Rattle.host_tables.specs.declared.draft.Draft.{Draft}
 use Rattle.host_tables.specs.declared.tables.Tables.{Tables}
 use Rattle.message_types.specs.Soundness.{AreFileBytes, Each, IsServer, IsSound}

@@ -40,7 +40,7 @@ use Rattle.host_manager.specs.Running.{IsRunning}
 use Rattle.host_tables.specs.Saying.{IsFirst}
 use Rattle.host_tables.specs.Stands.{Stands}
 use Rattle.host_tables.specs.Tables.{content, held_of, length_given, site_at}
-use Rattle.host_tables.specs.declared.calls.Leaving.{Leaving}
+use Rattle.host_gives.specs.declared.leavings.Leaving.{Leaving}
 use Rattle.host_tables.specs.declared.tables.Tables.{Tables}
 use Rattle.message_types.specs.Soundness.{PiecesRise}
 use Rattle.message_types.specs.declared.giving.Give.{Give}

@@ -11,7 +11,7 @@ use Rattle.host_leaves.specs.Owning.{dirty_length, update_span}
 use Rattle.host_manager.proofs.OneFile.{IsChosen}
 use Rattle.host_manager.proofs.Sizes.{size_in}
 use Rattle.host_tables.specs.Tables.{content, held_of, is_updating, length_given}
-use Rattle.host_tables.specs.declared.files.Given.{Given}
+use Rattle.host_lengths.specs.declared.given.Given.{Given}
 use Rattle.host_tables.specs.declared.tables.Tables.{Tables}
 use Rattle.run_rules.specs.Tokens.{IsUseKind}
 use Rattle.std.proofs.Common.{Bool, List, None, Some, [], ap, cond, false, if◌then◌else◌, map, not}

@@ -47,7 +47,7 @@ use Rattle.host_tables.specs.Stands.{IsAtRest, IsCoveredFrom, Stands, verdict_fr
 use Rattle.host_tables.specs.Tables.{ends_label, gives_label, held_of, is_last_pinned, labelled, site_at}
 use Rattle.host_tables.specs.Tidy.{IsOutgoing, IsTidy, IsTidyGive}
 use Rattle.host_tables.specs.Updates.{home_at}
-use Rattle.host_tables.specs.declared.calls.Leaving.{Leaving}
+use Rattle.host_gives.specs.declared.leavings.Leaving.{Leaving}
 use Rattle.host_tables.specs.declared.draft.Draft.{Draft}
 use Rattle.host_tables.specs.declared.tables.Tables.{Tables}
 use Rattle.message_types.specs.Soundness.{IsCall, IsEnd, IsServer, IsSound}

@@ -15,8 +15,8 @@ use Rattle.host_tables.specs.Hearing.{ClosesCall, ForgetsGives, IsLearnt}
 use Rattle.host_tables.specs.Stands.{Stands}
 use Rattle.host_tables.specs.Tables.{length_given}
 use Rattle.host_tables.specs.Updates.{known_by as known_is}
-use Rattle.host_tables.specs.declared.calls.Leaving.{Leaving}
-use Rattle.host_tables.specs.declared.files.Given.{Given}
+use Rattle.host_gives.specs.declared.leavings.Leaving.{Leaving}
+use Rattle.host_lengths.specs.declared.given.Given.{Given}
 use Rattle.host_tables.specs.declared.tables.Tables.{Tables}
 use Rattle.message_types.specs.declared.giving.AppliedGive.{AppliedGive}
 use Rattle.message_types.specs.declared.giving.Give.{Give}

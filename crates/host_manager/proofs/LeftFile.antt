@@ -13,7 +13,7 @@ use Rattle.host_tables.proofs.Updating.{reads_after}
 use Rattle.host_tables.specs.Tables.{is_shown_by, length_given, updates_status}
 use Rattle.host_tables.specs.Updates.{home_at}
 use Rattle.host_tables.specs.declared.draft.Draft.{Draft}
-use Rattle.host_tables.specs.declared.files.Given.{Given}
+use Rattle.host_lengths.specs.declared.given.Given.{Given}
 use Rattle.host_tables.specs.declared.tables.Tables.{Tables}
 use Rattle.message_types.specs.declared.message.Body.TheVariants.{Returned}
 use Rattle.message_types.specs.declared.message.Message.{Message}

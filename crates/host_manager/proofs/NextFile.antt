@@ -36,9 +36,9 @@ use Rattle.host_tables.proofs.Outstanding.{found_in, found_some}
 use Rattle.host_tables.specs.LeavingSteps.{Left, with_left}
 use Rattle.host_tables.specs.Tables.{content, held_of, is_updating, length_given, updates_status}
 use Rattle.host_tables.specs.Updates.{home_at}
-use Rattle.host_tables.specs.declared.calls.Leaving.{Leaving}
+use Rattle.host_gives.specs.declared.leavings.Leaving.{Leaving}
 use Rattle.host_tables.specs.declared.draft.Draft.{Draft}
-use Rattle.host_tables.specs.declared.files.Given.{Given}
+use Rattle.host_lengths.specs.declared.given.Given.{Given}
 use Rattle.host_tables.specs.declared.tables.Tables.{Tables}
 use Rattle.message_types.specs.declared.giving.AppliedGive.{AppliedGive}
 use Rattle.message_types.specs.declared.giving.Give.{Give}

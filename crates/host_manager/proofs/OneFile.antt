@@ -32,7 +32,7 @@ use Rattle.host_tables.specs.Letting.{Keeping}
 use Rattle.host_tables.specs.Stands.{LabelsStand}
 use Rattle.host_tables.specs.Tables.{content, held_of, is_length_clean, is_updating, labelled, length_given}
 use Rattle.host_tables.specs.Tables.{locks_under, ones, opens_under, own_of, updates_status}
-use Rattle.host_tables.specs.declared.calls.Leaving.{Leaving}
+use Rattle.host_gives.specs.declared.leavings.Leaving.{Leaving}
 use Rattle.host_tables.specs.declared.tables.Tables.{Tables}
 use Rattle.message_types.specs.declared.giving.Ends.{Ends}
 use Rattle.message_types.specs.declared.giving.Give.{Give}

@@ -20,7 +20,7 @@ use Rattle.host_tables.proofs.Lists.{map_in, not_true, same_id_is}
 use Rattle.host_tables.specs.Drafts.{no_draft}
 use Rattle.host_tables.specs.LeavingSteps.{Left, with_left}
 use Rattle.host_tables.specs.Tables.{content, held_of, length_given}
-use Rattle.host_tables.specs.declared.calls.Leaving.{Leaving}
+use Rattle.host_gives.specs.declared.leavings.Leaving.{Leaving}
 use Rattle.host_tables.specs.declared.draft.Draft.{Draft}
 use Rattle.host_tables.specs.declared.tables.Tables.{Tables}
 use Rattle.message_types.specs.declared.giving.Give.{Give}

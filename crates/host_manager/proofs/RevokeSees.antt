@@ -15,7 +15,7 @@ use Rattle.host_manager.proofs.Repeated.{with_once_once}
 use Rattle.host_manager.proofs.SortedSo.{fold_end, once_in}
 use Rattle.host_tables.proofs.Lists.{any_false, by_test, id_same, in_any, in_left, same_id_is, true_false}
 use Rattle.host_tables.proofs.Outstanding.{found_in}
-use Rattle.host_tables.specs.declared.calls.Leaving.{Leaving}
+use Rattle.host_gives.specs.declared.leavings.Leaving.{Leaving}
 use Rattle.host_tables.specs.declared.tables.Tables.{Tables}
 use Rattle.run_rules.specs.Past.{EachOnce, In}
 use Rattle.std.proofs.Common.{append-nil, append_assoc}

@@ -19,7 +19,7 @@ use Rattle.host_tables.proofs.Lists.{in_filter}
 use Rattle.host_tables.proofs.Lists.{in_left, map_in, not_true, same_fid_is, same_id_is, true_not}
 use Rattle.host_tables.proofs.Outstanding.{found_in}
 use Rattle.host_tables.specs.Tables.{held_of}
-use Rattle.host_tables.specs.declared.calls.Leaving.{Leaving}
+use Rattle.host_gives.specs.declared.leavings.Leaving.{Leaving}
 use Rattle.host_tables.specs.declared.tables.Tables.{Tables}
 use Rattle.message_types.specs.declared.message.Message.{Message}
 use Rattle.run_rules.specs.Past.{EachOnce, In}

@@ -56,9 +56,9 @@ use Rattle.host_tables.specs.Tables.{content, has_dirty_byte, held_of, home_of, 
 use Rattle.host_tables.specs.Tables.{is_length_dirty, is_updating, length_given, own_of, site_at, updates_status}
 use Rattle.host_tables.specs.Tidy.{IsOutgoing, IsTidy, IsTidyGive, IsTidyToken}
 use Rattle.host_tables.specs.Updates.{home_at}
-use Rattle.host_tables.specs.declared.calls.Leaving.{Leaving}
+use Rattle.host_gives.specs.declared.leavings.Leaving.{Leaving}
 use Rattle.host_tables.specs.declared.draft.Draft.{Draft}
-use Rattle.host_tables.specs.declared.files.Given.{Given}
+use Rattle.host_lengths.specs.declared.given.Given.{Given}
 use Rattle.host_tables.specs.declared.tables.Tables.{Tables}
 use Rattle.message_types.specs.Soundness.{IsCall, IsEnd, IsServer, IsSound}
 use Rattle.message_types.specs.declared.giving.Ends.{Ends}

@@ -14,10 +14,10 @@ use Rattle.host_leaves.specs.Owning.{is_use}
 use Rattle.host_leaves.specs.Sending.{with_once}
 use Rattle.host_tables.specs.Tables.{floor_of, site_at, updates_status}
 use Rattle.host_tables.specs.Updates.{home_at, known_by, with_floor, with_site}
-use Rattle.host_tables.specs.declared.calls.Leaving.{Leaving}
+use Rattle.host_gives.specs.declared.leavings.Leaving.{Leaving}
 use Rattle.host_tables.specs.declared.draft.Draft.{Draft}
 use Rattle.host_tables.specs.declared.files.Floor.{Floor}
-use Rattle.host_tables.specs.declared.files.Given.{Given}
+use Rattle.host_lengths.specs.declared.given.Given.{Given}
 use Rattle.host_tables.specs.declared.tables.Tables.{Tables}
 use Rattle.message_types.specs.declared.giving.AppliedGive.{AppliedGive}
 use Rattle.message_types.specs.declared.giving.Ends.{Ends}

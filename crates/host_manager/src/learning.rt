@@ -1,22 +1,20 @@
 //! What a host learns from servers.
 ghost use Rattle.std.specs.Prelude.{◌≡◌, ◌==◌, false, filter, None, not, option_copied, option_map, OnOk};
-ghost use Rattle.base_types.specs.Ids.{same_fid};
 ghost use Rattle.host_asks.specs.Asking.{doing};
 ghost use Rattle.host_cache.specs.Holding.{has_id};
 ghost use Rattle.host_cache.specs.Seen.{seen};
 ghost use Rattle.host_gives.specs.Giving.{is_outstanding, number_of};
 ghost use Rattle.host_manager.specs.Learning.{HasTaken, UsesBring, closed_at, due_of, ended_by, ends_in, floor_by};
-ghost use Rattle.host_manager.specs.Learning.{is_leaving_by, learning_given, may_use, renewed, shown_with, taking};
+ghost use Rattle.host_manager.specs.Learning.{learning_given, may_use, renewed, shown_with, taking};
 ghost use Rattle.host_manager.specs.Learning.{taking_from, taking_one, taking_token, without_length};
 ghost use Rattle.host_tables.specs.Updates.{home_at, with_floor};
 ghost use Rattle.message_types.specs.declared.giving.Ends.{Ends};
 
-use base_types::{Fid, Items, NoMemory, ServerId};
+use base_types::{Items, NoMemory, ServerId};
 use host_cache::Cache;
 use host_leaves::{is_length_update, push_once};
-use host_tables::{
-    Draft, Floor, Given, Leaving, Site, Tables, floor_of, home, mark_known, put_floor, put_site,
-};
+use host_lengths::Lengths;
+use host_tables::{Draft, Floor, Site, Tables, floor_of, home, put_floor, put_site};
 use message_types::{AppliedGive, Body, Bring, Grant, Message};
 use run_rules::Asked;
 use token_types::Token;
@@ -34,24 +32,11 @@ pub(crate) fn learn_given(
     let Some(message) = tables.gives.take_out(applied.fileset, applied.number) else {
         return Ok(());
     };
-    forget_leaving(&mut tables.leaving, applied);
-    mark_known(&mut tables.lengths, applied.fileset, applied.number);
+    tables.leaving.forget(applied.fileset, applied.number);
+    tables.lengths.mark_known(applied.fileset, applied.number);
     end_call(tables, &message);
     drop(message);
     note_due(tables, draft, applied, is_first)
-}
-
-// The tokens of a give-back are on their way no more.
-fn forget_leaving(leaving: &mut Items<Leaving>, applied: AppliedGive)
-    ensures { leaving.new ≡ filter (λ left. not (is_leaving_by applied left)) leaving.old }
-{
-    leaving.retain(|left| !is_leaving_by(left, applied));
-}
-
-fn is_leaving_by(left: &Leaving, applied: AppliedGive) -> bool
-    ensures { result ≡ is_leaving_by applied left.now }
-{
-    left.fileset == applied.fileset && left.number == applied.number
 }
 
 // The next give-back of a fileset is to be sent, where the one before it was outstanding.
@@ -234,24 +219,12 @@ fn add_token(cache: &mut Cache, token: &Token, grant: Option<&Grant>) -> Result<
 }
 
 // The length that was given back last counts no more, where a token is for update of a file's status.
-fn forget_length(lengths: &mut Items<Given>, token: &Token)
+fn forget_length(lengths: &mut Lengths, token: &Token)
     ensures { lengths.new ≡ without_length token.now lengths.old }
 {
     if is_length_update(token.kind) {
-        forget_lengths_of(lengths, token.fid);
+        lengths.forget(token.fid);
     }
-}
-
-fn forget_lengths_of(lengths: &mut Items<Given>, fid: Fid)
-    ensures { lengths.new ≡ filter (λ given. not (same_fid given.fid fid)) lengths.old }
-{
-    lengths.retain(|given| !is_of(given, fid));
-}
-
-fn is_of(given: &Given, fid: Fid) -> bool
-    ensures { result ≡ same_fid given.now.fid fid }
-{
-    given.fid == fid
 }
 
 /// The epoch of a server rises: the floors of its files begin anew.

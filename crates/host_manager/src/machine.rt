@@ -26,9 +26,10 @@ use base_types::{CACHED_TOKENS_DEFAULT, HostId, Items, Name, NoMemory, Node, Use
 use host_asks::repeat_all;
 use host_cache::Cache;
 use host_dirty::Dirty;
-use host_gives::Gives;
+use host_gives::{Gives, Leavings};
 use host_labels::Uses;
 use host_leaves::send_due;
+use host_lengths::Lengths;
 use host_tables::{Draft, Site, Tables, bare_step, new_sites};
 use host_tells::{Last, answer_again};
 use message_types::Message;
@@ -66,8 +67,9 @@ impl Machine {
             return Err(NoMemory);
         };
         let limit = limit_of(roster, host);
+        let leaving = Leavings::new(alloc)?;
         let dirty = Dirty::new(alloc);
-        let tables = new_tables(alloc, host, user, limit, cache, dirty, sites);
+        let tables = new_tables(alloc, host, user, limit, cache, dirty, leaving, sites);
         Ok(Machine { tables })
     }
 
@@ -377,8 +379,10 @@ fn new_tables(
     limit: u32,
     cache: Cache,
     dirty: Dirty,
+    leaving: Leavings,
     sites: Items<Site>,
 ) -> Tables
+    requires { leaving ≡ [] }
     ensures { result ≡ new_tables alloc host user limit cache dirty sites }
 {
     Tables {
@@ -388,10 +392,10 @@ fn new_tables(
         limit,
         cache,
         dirty,
-        lengths: Items::new(alloc),
+        lengths: Lengths::new(alloc),
         uses: Uses::new(alloc),
         gives: Gives::new(alloc),
-        leaving: Items::new(alloc),
+        leaving,
         ending: None,
         floors: Items::new(alloc),
         sites,

@@ -21,9 +21,9 @@ use Rattle.host_tables.specs.Stands.{PartedStands, RequestStands, SitesStand, St
 use Rattle.host_tables.specs.Tables.{content, floor_of, held_of, is_shown_by, labelled, labels_of, locks_under, ones}
 use Rattle.host_tables.specs.Tables.{opens_under, own_of}
 use Rattle.host_tables.specs.declared.calls.Home.{Home}
-use Rattle.host_tables.specs.declared.calls.Leaving.{Leaving}
+use Rattle.host_gives.specs.declared.leavings.Leaving.{Leaving}
 use Rattle.host_tables.specs.declared.calls.Request.TheVariants.{Change as AChange, Fetch as AFetch}
-use Rattle.host_tables.specs.declared.files.Given.{Given}
+use Rattle.host_lengths.specs.declared.given.Given.{Given}
 use Rattle.host_tables.specs.declared.numbers.Changed.{Changed}
 use Rattle.host_tables.specs.declared.numbers.Fetched.{Fetched}
 use Rattle.host_tables.specs.declared.sites.Site.{Site}

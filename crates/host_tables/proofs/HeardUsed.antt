@@ -22,8 +22,8 @@ use Rattle.host_tables.specs.Stands.{LabelsStand, LeavingStands, LengthsStand, L
 use Rattle.host_tables.specs.Stands.{PartedStands, RequestStands, SitesStand, Stands, TellsLength, UsesStand}
 use Rattle.host_tables.specs.Tables.{floor_of, held_of, is_shown_by, labelled, labels_of, locks_under, ones}
 use Rattle.host_tables.specs.Tables.{opens_under, own_of}
-use Rattle.host_tables.specs.declared.calls.Leaving.{Leaving}
-use Rattle.host_tables.specs.declared.files.Given.{Given}
+use Rattle.host_gives.specs.declared.leavings.Leaving.{Leaving}
+use Rattle.host_lengths.specs.declared.given.Given.{Given}
 use Rattle.host_tables.specs.declared.numbers.Changed.{Changed}
 use Rattle.host_tables.specs.declared.numbers.Fetched.{Fetched}
 use Rattle.host_tables.specs.declared.sites.Site.{Site}

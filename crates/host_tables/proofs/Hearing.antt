@@ -12,8 +12,8 @@ use Rattle.host_tables.specs.Hearing.{with_heard}
 use Rattle.host_tables.specs.Stands.{CallStands, GivesStand, LabelsStand, LeavingStands, LengthsStand, LostStands}
 use Rattle.host_tables.specs.Stands.{PartedStands, Stands, TellsLength}
 use Rattle.host_tables.specs.Tables.{labelled, length_given, locks_under, ones, opens_under, own_of}
-use Rattle.host_tables.specs.declared.calls.Leaving.{Leaving}
-use Rattle.host_tables.specs.declared.files.Given.{Given}
+use Rattle.host_gives.specs.declared.leavings.Leaving.{Leaving}
+use Rattle.host_lengths.specs.declared.given.Given.{Given}
 use Rattle.host_tables.specs.declared.tables.Tables.{Tables}
 use Rattle.message_types.specs.declared.giving.AppliedGive.{AppliedGive}
 use Rattle.message_types.specs.declared.giving.Give.{Give}

@@ -19,7 +19,7 @@ use Rattle.host_tables.specs.Quiet.{Moved, MovesRight, with_moved}
 use Rattle.host_tables.specs.Settling.{Settled}
 use Rattle.host_tables.specs.Stands.{LeavingStands, OrderStands, Stands}
 use Rattle.host_tables.specs.Tables.{content, labelled}
-use Rattle.host_tables.specs.declared.calls.Leaving.{Leaving}
+use Rattle.host_gives.specs.declared.leavings.Leaving.{Leaving}
 use Rattle.host_tables.specs.declared.tables.Tables.{Tables}
 use Rattle.message_types.specs.declared.giving.AppliedGive.{AppliedGive}
 use Rattle.message_types.specs.declared.giving.Ends.{Ends}

@@ -11,7 +11,7 @@ use Rattle.host_tables.specs.Saying.SaysAgain.{OfBye, OfChange, OfClaim, OfFetch
 use Rattle.host_tables.specs.Sending.{MayChange, MayFetch, MayGive, MayLeaveAll, MaySay, MaySend}
 use Rattle.host_tables.specs.Stands.{GivesStand, Stands}
 use Rattle.host_tables.specs.Tables.{site_at}
-use Rattle.host_tables.specs.declared.calls.Leaving.{Leaving}
+use Rattle.host_gives.specs.declared.leavings.Leaving.{Leaving}
 use Rattle.host_tables.specs.declared.calls.Request.{Request}
 use Rattle.host_tables.specs.declared.calls.Request.TheVariants.{Change as AChange, Fetch as AFetch}
 use Rattle.host_tables.specs.declared.tables.Tables.{Tables}

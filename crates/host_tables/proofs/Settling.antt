@@ -16,7 +16,7 @@ use Rattle.host_tables.specs.Stands.{HomesStand, LengthsStand, SitesStand, Stand
 use Rattle.host_tables.specs.Tables.{content, held_of, is_shown_by, labelled, length_given}
 use Rattle.host_tables.specs.declared.calls.Home.{Home}
 use Rattle.host_tables.specs.declared.files.Floor.{Floor}
-use Rattle.host_tables.specs.declared.files.Given.{Given}
+use Rattle.host_lengths.specs.declared.given.Given.{Given}
 use Rattle.host_tables.specs.declared.tables.Tables.{Tables}
 use Rattle.message_types.specs.declared.giving.AppliedGive.{AppliedGive}
 use Rattle.message_types.specs.declared.giving.Give.{Give}

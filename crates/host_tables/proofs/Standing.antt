@@ -19,7 +19,7 @@ use Rattle.host_tables.specs.Tables.{content, ends_label, gives_label, has_dirty
 use Rattle.host_tables.specs.Tables.{is_last_pinned, is_last_use, is_length_clean, is_length_dirty, is_updating}
 use Rattle.host_tables.specs.Tables.{labelled, labels_of, length_given, locks_under, ones, opens_under, own_of}
 use Rattle.host_tables.specs.Tables.{updates_status}
-use Rattle.host_tables.specs.declared.files.Given.{Given}
+use Rattle.host_lengths.specs.declared.given.Given.{Given}
 use Rattle.host_tables.specs.declared.tables.Tables.{Tables}
 use Rattle.message_types.specs.declared.giving.Give.{Give}
 use Rattle.message_types.specs.declared.message.Body.{Body}

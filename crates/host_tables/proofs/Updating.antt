@@ -23,7 +23,7 @@ use Rattle.host_tables.specs.Updates.{fresh_sites, home_at, is_fetched, is_floor
 use Rattle.host_tables.specs.Updates.{put_by, set_by}
 use Rattle.host_tables.specs.declared.calls.Home.{Home}
 use Rattle.host_tables.specs.declared.files.Floor.{Floor}
-use Rattle.host_tables.specs.declared.files.Given.{Given}
+use Rattle.host_lengths.specs.declared.given.Given.{Given}
 use Rattle.host_tables.specs.declared.numbers.Changed.{Changed}
 use Rattle.host_tables.specs.declared.numbers.Fetched.{Fetched}
 use Rattle.host_tables.specs.declared.sites.Site.{Site}

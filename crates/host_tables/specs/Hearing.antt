@@ -8,10 +8,10 @@ use Rattle.host_tables.specs.Stands.{CallStands, FloorsStand, GivesStand, HomesS
 use Rattle.host_tables.specs.Stands.{RequestStands, SitesStand, Stands}
 use Rattle.host_tables.specs.Tables.{floor_of, length_given, site_at}
 use Rattle.host_tables.specs.declared.calls.Home.{Home}
-use Rattle.host_tables.specs.declared.calls.Leaving.{Leaving}
+use Rattle.host_gives.specs.declared.leavings.Leaving.{Leaving}
 use Rattle.host_tables.specs.declared.calls.Request.{Request}
 use Rattle.host_tables.specs.declared.files.Floor.{Floor}
-use Rattle.host_tables.specs.declared.files.Given.{Given}
+use Rattle.host_lengths.specs.declared.given.Given.{Given}
 use Rattle.host_tables.specs.declared.sites.Site.{Site}
 use Rattle.host_tables.specs.declared.tables.Tables.{Tables}
 use Rattle.message_types.specs.declared.giving.AppliedGive.{AppliedGive}

@@ -5,10 +5,10 @@ use Rattle.host_tables.specs.Hearing.{ChangesSite, ClosesCall, ForgetsGives, Ren
 use Rattle.host_tables.specs.Hearing.{with_heard}
 use Rattle.host_tables.specs.Stands.{Stands}
 use Rattle.host_tables.specs.Tables.{floor_of, site_at}
-use Rattle.host_tables.specs.declared.calls.Leaving.{Leaving}
+use Rattle.host_gives.specs.declared.leavings.Leaving.{Leaving}
 use Rattle.host_tables.specs.declared.calls.Request.TheVariants.{Change as AChange, Fetch as AFetch}
 use Rattle.host_tables.specs.declared.files.Floor.{Floor}
-use Rattle.host_tables.specs.declared.files.Given.{Given}
+use Rattle.host_lengths.specs.declared.given.Given.{Given}
 use Rattle.host_tables.specs.declared.sites.Site.{Site}
 use Rattle.host_tables.specs.declared.tables.Tables.{Tables}
 use Rattle.message_types.specs.declared.asking.Change.{Change as ChangeOf}

@@ -18,8 +18,8 @@ use Rattle.host_tables.specs.Quiet.{Moved, MovesRight, with_moved}
 use Rattle.host_tables.specs.Settling.{Settled}
 use Rattle.host_tables.specs.Stands.{LabelsStand, Stands}
 use Rattle.host_tables.specs.Tables.{content, held_of, is_shown_by, labelled, length_given, own_of}
-use Rattle.host_tables.specs.declared.calls.Leaving.{Leaving}
-use Rattle.host_tables.specs.declared.files.Given.{Given}
+use Rattle.host_gives.specs.declared.leavings.Leaving.{Leaving}
+use Rattle.host_lengths.specs.declared.given.Given.{Given}
 use Rattle.host_tables.specs.declared.tables.Tables.{Tables}
 use Rattle.message_types.specs.declared.giving.Ends.{Ends}
 use Rattle.message_types.specs.declared.giving.Give.{Give}

@@ -7,7 +7,7 @@ use Rattle.host_tables.specs.QuietStep.{IsOfTables}
 use Rattle.host_tables.specs.Sending.{MaySend}
 use Rattle.host_tables.specs.Stands.{Stands}
 use Rattle.host_tables.specs.Tables.{held_of, site_at}
-use Rattle.host_tables.specs.declared.calls.Leaving.{Leaving}
+use Rattle.host_gives.specs.declared.leavings.Leaving.{Leaving}
 use Rattle.host_tables.specs.declared.calls.Request.TheVariants.{Change as AChange, Fetch as AFetch}
 use Rattle.host_tables.specs.declared.tables.Tables.{Tables}
 use Rattle.message_types.specs.declared.asking.Change.{Change as ChangeOf}

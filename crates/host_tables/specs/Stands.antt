@@ -18,11 +18,11 @@ use Rattle.host_labels.specs.declared.uses.Labelled.{Labelled as UseOf}
 use Rattle.host_tables.specs.Tables.{content, floor_of, held_of, home_of, is_length_clean, is_shown_by, labelled}
 use Rattle.host_tables.specs.Tables.{last_change, last_fetch, length_given, own_of, site_at, updates_status}
 use Rattle.host_tables.specs.declared.calls.Home.{Home}
-use Rattle.host_tables.specs.declared.calls.Leaving.{Leaving}
+use Rattle.host_gives.specs.declared.leavings.Leaving.{Leaving}
 use Rattle.host_tables.specs.declared.calls.Request.{Request}
 use Rattle.host_tables.specs.declared.calls.Request.TheVariants.{Change as AChange, Fetch as AFetch}
 use Rattle.host_tables.specs.declared.files.Floor.{Floor}
-use Rattle.host_tables.specs.declared.files.Given.{Given}
+use Rattle.host_lengths.specs.declared.given.Given.{Given}
 use Rattle.host_tables.specs.declared.numbers.Changed.{Changed}
 use Rattle.host_tables.specs.declared.numbers.Fetched.{Fetched}
 use Rattle.host_tables.specs.declared.sites.Site.{Site}

@@ -13,9 +13,10 @@ use Rattle.host_dirty.specs.declared.dirty.Dirty.{Dirty}
 use Rattle.host_gives.specs.Giving.{is_of_file}
 use Rattle.host_labels.specs.Labels.{InUse as InUseOf, is_labelled, is_lock, is_pinned}
 use Rattle.host_labels.specs.declared.uses.Labelled.{Labelled as UseOf}
+pub use Rattle.host_lengths.specs.Giving.{length_given}
 use Rattle.host_tables.specs.declared.calls.Home.{Home}
 use Rattle.host_tables.specs.declared.files.Floor.{Floor}
-use Rattle.host_tables.specs.declared.files.Given.{Given}
+use Rattle.host_lengths.specs.declared.given.Given.{Given}
 use Rattle.host_tables.specs.declared.numbers.Changed.{Changed}
 use Rattle.host_tables.specs.declared.numbers.Fetched.{Fetched}
 use Rattle.host_tables.specs.declared.sites.Site.{Site}
@@ -88,10 +89,6 @@ is_counter server fileset changed =
 abbrev pub last_change : List Changed → ServerId → FilesetId → ℕ
 last_change changed server fileset =
     option_map_or (λ c. c.number) (find (is_counter server fileset) changed) 0
-
--- lengths that were given back
-abbrev pub length_given : List Given → Fid → Option Given
-length_given lengths fid = find (λ given. same_fid given.fid fid) lengths
 
 -- the length is clean: the last one that was given back is what is seen, and is known as applied
 abbrev pub is_length_clean : List Given → View → Fid → Bool

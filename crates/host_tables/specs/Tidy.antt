@@ -10,7 +10,7 @@ use Rattle.host_tables.specs.RevokeSteps.{SaysRevoked}
 use Rattle.host_tables.specs.Saying.{SaysAgain}
 use Rattle.host_tables.specs.Tables.{content, held_of, site_at}
 use Rattle.host_tables.specs.declared.calls.Home.{Home}
-use Rattle.host_tables.specs.declared.calls.Leaving.{Leaving}
+use Rattle.host_gives.specs.declared.leavings.Leaving.{Leaving}
 use Rattle.host_tables.specs.declared.calls.Request.TheVariants.{Change as AChange, Fetch as AFetch}
 use Rattle.host_tables.specs.declared.files.Floor.{Floor}
 use Rattle.host_tables.specs.declared.sites.Site.{Site}

@@ -17,7 +17,7 @@ use Rattle.host_tables.specs.Updates.{fresh_sites, home_at, is_site, known_by, w
 use Rattle.host_tables.specs.Updates.{with_floor, with_given, with_home, with_site}
 use Rattle.host_tables.specs.declared.calls.Home.{Home}
 use Rattle.host_tables.specs.declared.files.Floor.{Floor}
-use Rattle.host_tables.specs.declared.files.Given.{Given}
+use Rattle.host_lengths.specs.declared.given.Given.{Given}
 use Rattle.host_tables.specs.declared.numbers.Changed.{Changed}
 use Rattle.host_tables.specs.declared.numbers.Fetched.{Fetched}
 use Rattle.host_tables.specs.declared.sites.Site.{Site}

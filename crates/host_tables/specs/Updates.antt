@@ -1,5 +1,5 @@
 -- How tables change.
-use Rattle.std.specs.Prelude.{ℕ, suc, zero, ◌+◌, ◌/◌, ◌%◌, ◌==◌, ◌&&◌, ◌||◌, Bool, if◌then◌else◌, List, [], ◌∷◌, ◌++◌}
+use Rattle.std.specs.Prelude.{ℕ, suc, zero, ◌+◌, ◌/◌, ◌%◌, ◌==◌, ◌&&◌, Bool, if◌then◌else◌, List, [], ◌∷◌, ◌++◌}
 use Rattle.std.specs.Prelude.{map}
 use Rattle.base_types.specs.Ids.{same_fid}
 use Rattle.base_types.specs.Name.{same_name}
@@ -9,17 +9,12 @@ use Rattle.base_types.specs.declared.ids.ServerId.{ServerId}
 use Rattle.host_tables.specs.Tables.{fresh_site, is_counter}
 use Rattle.host_tables.specs.declared.calls.Home.{Home}
 use Rattle.host_tables.specs.declared.files.Floor.{Floor}
-use Rattle.host_tables.specs.declared.files.Given.{Given}
 use Rattle.host_tables.specs.declared.numbers.Changed.{Changed}
 use Rattle.host_tables.specs.declared.numbers.Fetched.{Fetched}
 use Rattle.host_tables.specs.declared.sites.Site.{Site}
+pub use Rattle.host_lengths.specs.Giving.{is_given, known_by, put_by, with_given}
 
--- with this in place of the first that passes a test; at the end where none does
-abbrev pub put_by : {A : Type 0} → (A → Bool) → A → List A → List A
-put_by test new [] = new ∷ []
-put_by test new (x ∷ xs) = if test x then new ∷ xs else x ∷ put_by test new xs
-
--- the same, but where none passes nothing changes
+-- with this in place of the first that passes a test, where one does
 abbrev pub set_by : {A : Type 0} → (A → Bool) → A → List A → List A
 set_by test new [] = []
 set_by test new (x ∷ xs) = if test x then new ∷ xs else x ∷ set_by test new xs
@@ -36,17 +31,6 @@ is_floor fid floor = same_fid floor.fid fid
 
 abbrev pub with_floor : Floor → List Floor → List Floor
 with_floor floor floors = put_by (is_floor floor.fid) floor floors
-
-abbrev pub is_given : Fid → Given → Bool
-is_given fid given = same_fid given.fid fid
-
-abbrev pub with_given : Given → List Given → List Given
-with_given given lengths = put_by (is_given given.fid) given lengths
-
--- a give-back of a fileset is known as applied
-abbrev pub known_by : FilesetId → ℕ → Given → Given
-known_by fileset number given =
-    record given { known = given.known || ((given.fid.fileset.0 == fileset.0) && (given.number == number)) }
 
 abbrev pub is_fetched : FilesetId → Fetched → Bool
 is_fetched fileset fetched = fetched.fileset.0 == fileset.0

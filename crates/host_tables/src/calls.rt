@@ -5,7 +5,6 @@ ghost use Rattle.host_tables.specs.Updates.{is_home, with_home};
 
 use base_types::{FilesetId, Items, Name, NoMemory, Plain, ServerId};
 use message_types::{Change, Fetch};
-use token_types::Token;
 
 /// The request that is outstanding.
 #[derive(Drop)]
@@ -13,15 +12,6 @@ pub enum Request {
     Fetch(Fetch),
     /// A Change, and the server that decides it.
     Change(ServerId, Change),
-}
-
-/// A token that a give-back names which isn't known as applied.
-#[derive(Clone, Copy)]
-pub struct Leaving {
-    pub fileset: FilesetId,
-    /// The number of the give-back.
-    pub number: u64,
-    pub token: Token,
 }
 
 /// A fileset that the host has entered.

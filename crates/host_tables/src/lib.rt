@@ -10,9 +10,9 @@ mod numbers;
 mod sites;
 mod tables;
 
-pub use calls::{Home, Leaving, Request, home_of, put_home};
+pub use calls::{Home, Request, home_of, put_home};
 pub use draft::{Draft, bare_step};
-pub use files::{Floor, Given, floor_of, given_length, mark_known, put_floor, put_given};
+pub use files::{Floor, floor_of, put_floor};
 pub use laws::{tables_laws, updates_law};
 pub use numbers::{Changed, Fetched, next_change, next_fetch};
 pub use sites::{Site, home, new_sites, put_site, site_at};

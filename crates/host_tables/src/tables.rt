@@ -1,15 +1,16 @@
 ghost use Rattle.std.specs.Prelude.{◌≡◌};
 ghost use Rattle.host_tables.specs.Tables.{site_at};
 
-use crate::calls::{Home, Leaving, Request};
-use crate::files::{Floor, Given};
+use crate::calls::{Home, Request};
+use crate::files::Floor;
 use crate::numbers::{Changed, Fetched};
 use crate::sites::{Site, site_at};
 use base_types::{Fid, HostId, Items, ServerId, User};
 use host_cache::Cache;
 use host_dirty::Dirty;
-use host_gives::Gives;
+use host_gives::{Gives, Leavings};
 use host_labels::Uses;
+use host_lengths::Lengths;
 use run_rules::{Asked, Labelled};
 use std::alloc::Global;
 
@@ -26,13 +27,13 @@ pub struct Tables {
     pub cache: Cache,
     /// The bytes that it has changed and not given back. Lengths are in a table of their own.
     pub dirty: Dirty,
-    pub lengths: Items<Given>,
+    pub lengths: Lengths,
     /// The labels in use.
     pub uses: Uses,
     /// The give-backs that it made and doesn't know as applied.
     pub gives: Gives,
     /// The tokens that they name.
-    pub leaving: Items<Leaving>,
+    pub leaving: Leavings,
     /// The label whose use one of them ends.
     pub ending: Option<Labelled>,
     pub floors: Items<Floor>,

@@ -8,8 +8,9 @@ use anyhow::{Result, bail};
 use base_types::{Fid, HostId, Items, Name, NoMemory, ServerId, User};
 use host_cache::Cache;
 use host_dirty::Dirty;
-use host_gives::Gives;
+use host_gives::{Gives, Leavings};
 use host_labels::Uses;
+use host_lengths::Lengths;
 use host_tables::{Draft, Request, Site, Tables, new_sites};
 use message_types::{Body, Change, Fetch, Revoke};
 use run_rules::Why;
@@ -33,7 +34,7 @@ impl Leaver {
         let sites = new_sites(alloc, SERVERS)?;
         let cache = Cache::new(alloc)?;
         Ok(Leaver {
-            tables: tables_of(alloc, user, sites, cache),
+            tables: tables_of(alloc, user, sites, cache)?,
         })
     }
 
@@ -60,18 +61,19 @@ impl Leaver {
 }
 
 // Tables in which nothing is outstanding.
-fn tables_of(alloc: Global, user: User, sites: Items<Site>, cache: Cache) -> Tables {
-    Tables {
+fn tables_of(alloc: Global, user: User, sites: Items<Site>, cache: Cache) -> Result<Tables> {
+    let leaving = Leavings::new(alloc)?;
+    Ok(Tables {
         alloc,
         host: HostId(1),
         user,
         limit: 4,
         cache,
         dirty: Dirty::new(alloc),
-        lengths: Items::new(alloc),
+        lengths: Lengths::new(alloc),
         uses: Uses::new(alloc),
         gives: Gives::new(alloc),
-        leaving: Items::new(alloc),
+        leaving,
         ending: None,
         floors: Items::new(alloc),
         sites,
@@ -82,7 +84,7 @@ fn tables_of(alloc: Global, user: User, sites: Items<Site>, cache: Cache) -> Tab
         lost: Items::new(alloc),
         call: None,
         begun: 0,
-    }
+    })
 }
 
 fn step(tables: &mut Tables, draft: &mut Draft, words: &mut Words) -> Result<()> {

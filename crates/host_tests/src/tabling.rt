@@ -2,11 +2,11 @@
 
 use crate::reading::{Words, push_number, push_yes};
 use anyhow::{Context, Result, bail};
-use base_types::{FilesetId, HostId, Items, NoMemory, Node, ServerId};
+use base_types::{Fid, FilesetId, HostId, Items, NoMemory, Node, ServerId};
+use host_lengths::{Given, Lengths};
 use host_tables::{
-    Changed, Draft, Fetched, Floor, Given, Home, Site, bare_step, floor_of, given_length, home,
-    home_of, mark_known, new_sites, next_change, next_fetch, put_floor, put_given, put_home,
-    put_site, site_at,
+    Changed, Draft, Fetched, Floor, Home, Site, bare_step, floor_of, home, home_of, new_sites,
+    next_change, next_fetch, put_floor, put_home, put_site, site_at,
 };
 use run_rules::Cause;
 use std::alloc::Global;
@@ -20,7 +20,7 @@ const SERVERS: u8 = 2;
 pub struct Tables {
     homes: Items<Home>,
     floors: Items<Floor>,
-    lengths: Items<Given>,
+    lengths: Lengths,
     fetched: Items<Fetched>,
     changed: Items<Changed>,
     sites: Items<Site>,
@@ -32,7 +32,7 @@ impl Tables {
         Ok(Tables {
             homes: Items::new(alloc),
             floors: Items::new(alloc),
-            lengths: Items::new(alloc),
+            lengths: Lengths::new(alloc),
             fetched: Items::new(alloc),
             changed: Items::new(alloc),
             sites,
@@ -105,8 +105,8 @@ impl Tables {
             length,
             known: false,
         };
-        put_given(&mut self.lengths, given)?;
-        text.number("", self.lengths.len() as u64);
+        self.lengths.put(given)?;
+        self.tell_given(fid, text);
         Ok(())
     }
 
@@ -114,10 +114,15 @@ impl Tables {
         let fileset = words.fileset();
         let number = words.number()?;
         let fid = words.file()?;
-        mark_known(&mut self.lengths, fileset, number);
-        let given = given_length(self.lengths.as_slice(), fid);
+        self.lengths.mark_known(fileset, number);
+        let given = self.lengths.given(fid);
         push_yes(text, given.map_or(false, |given| given.known));
         Ok(())
+    }
+
+    fn tell_given(&self, fid: Fid, text: &mut Text) {
+        let given = self.lengths.given(fid);
+        push_number(text, given.map(|given| u64::from(given.length)));
     }
 
     fn look(
@@ -130,9 +135,11 @@ impl Tables {
         match word {
             "fetch" => text.number("", next_fetch(&mut self.fetched, words.fileset())?),
             "floor" => text.number("", floor_of(self.floors.as_slice(), words.file()?)),
-            "given" => {
-                let given = given_length(self.lengths.as_slice(), words.file()?);
-                push_number(text, given.map(|given| u64::from(given.length)));
+            "given" => self.tell_given(words.file()?, text),
+            "forget" => {
+                let fid = words.file()?;
+                self.lengths.forget(fid);
+                self.tell_given(fid, text);
             }
             "made" => text.number("", u64::from(home(words.fileset()).0)),
             "sent" => text.number("", sent(alloc) as u64),

@@ -1,5 +1,5 @@
 use Rattle.std.proofs.Common.{◌∙◌}
-use Rattle.host_tables.specs.declared.calls.Leaving.{Leaving}
+use Rattle.host_gives.specs.declared.leavings.Leaving.{Leaving}
 use Rattle.host_leaves.proofs.Steps.{behind_next}
 use Rattle.host_asks.proofs.claiming.push_leaving.Goals as goal
 

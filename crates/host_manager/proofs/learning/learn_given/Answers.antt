@@ -21,7 +21,7 @@ returns c =
     let y = c.in-Some.message in
     let ended = c.end_call.ensures ∙ (λ i. ended_by y (record m {
       gives = c.take_out.ensures.after i;
-      leaving = c.forget_leaving.ensures i;
+      leaving = c.forget.ensures i;
       lengths = c.mark_known.ensures i;
     })) in
     let left = ap (λ (x : Tables). x.gives) ended ∙ ended_gives y (without_give n m) in

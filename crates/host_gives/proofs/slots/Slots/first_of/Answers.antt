@@ -10,14 +10,14 @@ use Rattle.host_gives.proofs.slots.Slots.first_of.Goals as goal
 pub slot_behind-requires : goal.slot_behind-requires
 slot_behind-requires c =
     (looked_from c.self.inside.slots c.as_slice-2.result.now c.self.inside.starts c.as_slice.result.now c.args.fileset
-    c.start_of-start.result c.as_slice.ensures c.start_of-start.ensures c.as_slice-2.ensures c.self.invariant).0
+    c.start_of-start.result c.as_slice.ensures c.start_of-start.ensures c.as_slice-2.ensures c.self.invariant.0).0
 
 pub returns-in-Some : goal.returns-in-Some
 returns-in-Some c =
     let test = is_of c.args.fileset in
     let from = looked_from c.self.inside.slots c.as_slice-2.result.now c.self.inside.starts c.as_slice.result.now
     c.args.fileset c.start_of-start.result c.as_slice.ensures c.start_of-start.ensures c.as_slice-2.ensures
-    c.self.invariant in
+    c.self.invariant.0 in
     c.as_ref.ensures.value
     ∙ ap option_flatten (c.in-Some.ensures
     ∙ find_behind (holds test) c.start_of-start.result c.as_slice-2.result.now from.1
@@ -29,7 +29,7 @@ returns-in-None c =
     let test = is_of c.args.fileset in
     let from = looked_from c.self.inside.slots c.as_slice-2.result.now c.self.inside.starts c.as_slice.result.now
     c.args.fileset c.start_of-start.result c.as_slice.ensures c.start_of-start.ensures c.as_slice-2.ensures
-    c.self.invariant in
+    c.self.invariant.0 in
     ap option_flatten (c.in-None.ensures
     ∙ find_behind (holds test) c.start_of-start.result c.as_slice-2.result.now from.1
     ∙ ap (find (holds test)) c.as_slice-2.ensures)

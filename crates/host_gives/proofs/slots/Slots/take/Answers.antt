@@ -1,14 +1,16 @@
 use Rattle.std.proofs.Common.{◌≡◌, ◌+◌, drop, take, None, Some, refl, ap, subst, sym, ◌∙◌}
 use Rattle.std.specs.List.{find, position}
 use Rattle.host_gives.specs.Giving.{is_numbered, without}
+use Rattle.host_gives.specs.Named.{AreNamed}
 use Rattle.host_gives.specs.Slots.{AreStarts, held_in, holds}
+use Rattle.host_gives.proofs.Naming.{named_emptied}
 use Rattle.host_gives.proofs.Starting.{looked_from, none_numbered, nowhere_behind, right_emptied, taken_behind}
 use Rattle.host_gives.proofs.slots.Slots.take.Goals as goal
 
 pub place_behind-requires : goal.place_behind-requires
 place_behind-requires c =
     (looked_from c.self.inside.slots c.as_slice-2.result.now c.self.inside.starts c.as_slice.result.now c.args.fileset
-    c.start_of-start.result c.as_slice.ensures c.start_of-start.ensures c.as_slice-2.ensures c.self.invariant).0
+    c.start_of-start.result c.as_slice.ensures c.start_of-start.ensures c.as_slice-2.ensures c.self.invariant.0).0
 
 pub returns-in_default-clause-taken : goal.returns-in_default-clause-taken
 returns-in_default-clause-taken c =
@@ -16,7 +18,7 @@ returns-in_default-clause-taken c =
     let xs = c.self.inside.slots in
     let n = c.start_of-start.result in
     let from = looked_from xs xs c.self.inside.starts c.as_slice.result.now c.args.fileset n
-    c.as_slice.ensures c.start_of-start.ensures refl c.self.invariant in
+    c.as_slice.ensures c.start_of-start.ensures refl c.self.invariant.0 in
     let at : position (holds test) (drop n xs) ≡ None =
     ap (λ ys. position (holds test) (drop n ys)) (sym c.as_slice-2.ensures) ∙ sym c.place_behind.ensures
     ∙ c.in_default.is in
@@ -29,7 +31,7 @@ returns-in_default-clause-rest c =
     let xs = c.self.inside.slots in
     let n = c.start_of-start.result in
     let from = looked_from xs xs c.self.inside.starts c.as_slice.result.now c.args.fileset n
-    c.as_slice.ensures c.start_of-start.ensures refl c.self.invariant in
+    c.as_slice.ensures c.start_of-start.ensures refl c.self.invariant.0 in
     let at : position (holds test) (drop n xs) ≡ None =
     ap (λ ys. position (holds test) (drop n ys)) (sym c.as_slice-2.ensures) ∙ sym c.place_behind.ensures
     ∙ c.in_default.is in
@@ -39,7 +41,8 @@ returns-in_default-clause-rest c =
 pub move_start-requires-clause-right : goal.move_start-requires-clause-right
 move_start-requires-clause-right c =
     subst (λ ys. AreStarts ys c.self.inside.starts) (sym (c.as_slice-3.ensures ∙ c.empty-taken.ensures.rest))
-    (right_emptied c.self.inside.slots (c.start_of-start.result + c.in-Some.behind) c.self.inside.starts c.self.invariant)
+    (right_emptied c.self.inside.slots (c.start_of-start.result + c.in-Some.behind) c.self.inside.starts
+    c.self.invariant.0)
 
 pub returns-clause-taken : goal.returns-clause-taken
 returns-clause-taken c =
@@ -47,7 +50,7 @@ returns-clause-taken c =
     let xs = c.self.inside.slots in
     let n = c.start_of-start.result in
     let from = looked_from xs xs c.self.inside.starts c.as_slice.result.now c.args.fileset n
-    c.as_slice.ensures c.start_of-start.ensures refl c.self.invariant in
+    c.as_slice.ensures c.start_of-start.ensures refl c.self.invariant.0 in
     let at : position (holds test) (drop n xs) ≡ Some c.in-Some.behind =
     ap (λ ys. position (holds test) (drop n ys)) (sym c.as_slice-2.ensures) ∙ sym c.place_behind.ensures
     ∙ c.in-Some.is in
@@ -61,7 +64,7 @@ returns-clause-rest c =
     let xs = c.self.inside.slots in
     let n = c.start_of-start.result in
     let from = looked_from xs xs c.self.inside.starts c.as_slice.result.now c.args.fileset n
-    c.as_slice.ensures c.start_of-start.ensures refl c.self.invariant in
+    c.as_slice.ensures c.start_of-start.ensures refl c.self.invariant.0 in
     let at : position (holds test) (drop n xs) ≡ Some c.in-Some.behind =
     ap (λ ys. position (holds test) (drop n ys)) (sym c.as_slice-2.ensures) ∙ sym c.place_behind.ensures
     ∙ c.in-Some.is in
@@ -69,3 +72,13 @@ returns-clause-rest c =
     ∙ (taken_behind test n c.in-Some.behind xs c.empty-taken.result from.0
     (none_numbered c.args.fileset c.args.number (take n xs) from.1) at c.empty-taken.ensures.taken).1
     ∙ ap (without test) c.self.view_is
+
+pub invariant_of-self : goal.invariant_of-self
+invariant_of-self c = (
+  c.close_gaps-self-inside.ensures.starts
+      (subst (λ ys. AreStarts ys c.move_start.new.starts) c.as_slice-3.ensures c.move_start.ensures),
+  c.close_gaps-self-inside.ensures.named (subst (λ ys. AreNamed ys c.self.inside.named)
+      (sym c.empty-taken.ensures.rest)
+      (named_emptied c.self.inside.slots (c.start_of-start.result + c.in-Some.behind) c.self.inside.named
+      c.self.invariant.1)),
+)
