@@ -206,7 +206,7 @@ module _ (script : Script) (journal : Journal) (sound : IsSound script)
             let line : Line = next.0 in
             absurd (rests.lines (Server v) line part (record {
               next = (next.2, refl);
-              met = λ flag is. awaits (Server v) line flag (next.2, refl) is;
+              met = λ flag is. awaits (Server v) line flag part (next.2, refl) is;
               free = λ h same. absurd (let z : Server v ≡ Host h = same in cc);
             }))
             )

@@ -25,7 +25,10 @@ pub mod Numbering
 pub mod Requests
 pub mod Meaning
 pub mod Standing
+pub mod Deciding
 pub mod Unblocking
 pub mod Shutting
 pub mod Closing
 pub mod Ending
+pub mod Rested
+pub mod Worked

@@ -9,6 +9,7 @@ use Rattle.script_lines.specs.declared.script.Script.{Script}
 use Rattle.message_types.specs.declared.message.Body.TheVariants.{Done, Grant}
 use Rattle.run_rules.specs.Doings.{Doing, Granted, NoGrace, Pinned, Reserved, after_step, doings_of}
 use Rattle.run_rules.specs.Doings.Doing.{Admits, BeginsEpoch, MakesWant, Sent}
+use Rattle.run_rules.specs.Kept.{filesets_kept}
 use Rattle.run_rules.specs.Past.{Always}
 use Rattle.run_rules.specs.Runs.{StepDue, StepsMeet, TakesPart, firsts_of, past_of}
 use Rattle.run_rules.specs.ServerMay.{HasRevoked, IsAskedBack}
@@ -19,12 +20,13 @@ use Rattle.run_rules.specs.declared.applied.Wanted.{Wanted}
 use Rattle.run_rules.specs.declared.journal.Journal.{Journal}
 use Rattle.run_rules.specs.declared.step.Step.{Step}
 use Rattle.run_tokens.proofs.Words.{acts_after, if_server}
-use Rattle.run_goes_on.proofs.Arriving.{due_of}
+use Rattle.run_goes_on.proofs.Arriving.{due_of, from_one}
+use Rattle.run_goes_on.proofs.Deciding.{undecided_none}
 use Rattle.run_goes_on.proofs.Gracing.{no_grace_period_stands}
 use Rattle.run_goes_on.proofs.Owing.{nothing_is_owed}
 use Rattle.run_goes_on.proofs.Queueing.{IsFirst, made_new, none_waits}
 use Rattle.run_goes_on.specs.Ended.{NoMoveWaits, NoWantsWait}
-use Rattle.run_goes_on.specs.Rest.{RunRests}
+use Rattle.run_goes_on.specs.Rest.{RunRests, ServerRests}
 use Rattle.run_goes_on.specs.Waiting.{IsQuiet}
 
 -- a server begins with nothing granted
@@ -70,7 +72,7 @@ module _ (script : Script) (start : Tree) (firsts : ServerId → ℕ) (v : Serve
       if_server (λ (S : List Doing). IsQueued S w → TakesPart script (Server v)) k v (after_step s (acts past))
       (acts past) (λ e waits. subst (λ (u : ServerId). TakesPart script (Server u)) e part) old
 
-  takes_part : (past : List Step) → StepsMeet script start firsts past → (w : Wanted) → IsQueued (acts past) w
+  pub takes_part : (past : List Step) → StepsMeet script start firsts past → (w : Wanted) → IsQueued (acts past) w
       → TakesPart script (Server v)
   takes_part [] run w (inl made) = absurd (let z : BeginsEpoch (firsts v) ≡ MakesWant w = made in cc)
   takes_part [] run w (inr old) = elim old.0 [ ]
@@ -93,11 +95,16 @@ module _ (script : Script) (journal : Journal) (q : IsQuiet script journal) (res
       unbehind : IsBehind last w → ⊥
       unbehind b = first b.0 tt b.1
 
+      at_rest : ServerRests v (filesets_kept q.run.start v (steps_of_server v (past_of journal))) last
+      at_rest =
+          rests.servers q.run.start v q.run.starts
+          (takes_part script q.run.start (firsts_of journal) v (past_of journal) q.run.steps w waits)
+
       undecided : CanDecide v last w → ⊥
       undecided decides =
-          let k = (rests.servers v (takes_part script q.run.start (firsts_of journal) v (past_of journal) q.run.steps w
-          waits)).decided w waits decides in
-          still v w k.0 waits k.1 k.2
+          undecided_none script q.run.start (firsts_of journal) (λ u. from_one _) v (past_of journal) q.run.steps
+          (due_of script journal q.run q.dutiful) at_rest.decided w waits (λ c is moves. still v w c waits is moves)
+          decides
 
       granted_none : (t : Token) → Granted v last t → IsInWay w t → ⊥
       granted_none t granted way = nothing_is_owed script journal q v t (record {
@@ -120,9 +127,7 @@ module _ (script : Script) (journal : Journal) (q : IsQuiet script journal) (res
 
       free : (t : Token) → Granted v last t ⊎ Reserved last t → IsInWay w t → ⊥
       free t (inl granted) way = granted_none t granted way
-      free t (inr reserved) way =
-          (rests.servers v (takes_part script q.run.start (firsts_of journal) v (past_of journal) q.run.steps w
-          waits)).flushed t reserved
+      free t (inr reserved) way = at_rest.flushed t reserved
 
 pub no_wants_wait : NoWantsWait
 no_wants_wait script journal q rests still v w waits =

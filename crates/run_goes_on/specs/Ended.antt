@@ -1,7 +1,9 @@
 -- That a run in which nothing more can happen is ended. Lists of steps and doings have the newest first.
 use Rattle.std.specs.Prelude.{Bool, List, true, ℕ, ◌<◌, ◌≡◌}
 use Rattle.base_types.specs.declared.ids.HostId.{HostId}
+use Rattle.base_types.specs.declared.ids.Node.TheVariants.{Server}
 use Rattle.base_types.specs.declared.ids.ServerId.{ServerId}
+use Rattle.token_types.specs.declared.token.Token.{Token}
 use Rattle.tree_calls.specs.declared.call.Call.TheVariants.{Lock}
 use Rattle.tree_calls.specs.declared.place.Place.{Place}
 use Rattle.script_lines.specs.Sound.{IsSound}
@@ -11,11 +13,11 @@ use Rattle.script_lines.specs.declared.script.Script.{Script}
 use Rattle.message_types.specs.declared.asking.Change.{Change as ChangeOf}
 use Rattle.message_types.specs.declared.message.Body.{Body}
 use Rattle.message_types.specs.declared.message.Body.TheVariants.{Change, Fetch}
-use Rattle.run_rules.specs.Doings.{doings_of}
+use Rattle.run_rules.specs.Doings.{Reserved, doings_of}
 use Rattle.run_rules.specs.HostDue.{IsUnanswered}
 use Rattle.run_rules.specs.Messages.{HasStopped}
 use Rattle.run_rules.specs.Past.{In}
-use Rattle.run_rules.specs.Runs.{IsEnded, firsts_of, past_of}
+use Rattle.run_rules.specs.Runs.{IsEnded, IsRun, TakesPart, firsts_of, past_of}
 use Rattle.run_rules.specs.Steps.{steps_of_host}
 use Rattle.run_rules.specs.Tokens.{NoneOpen}
 use Rattle.run_rules.specs.Wants.{IsQueued, moves_fileset}
@@ -82,9 +84,24 @@ NoCallsAreOpen =
     → IsSound script → LocksBytes script → (host : HostId)
     → (HasStopped (steps_of_host host (past_of journal)) → ⊥) → NoneOpen (steps_of_host host (past_of journal))
 
+-- # The end
+
 -- A run in which nothing more can happen is ended; but where a held message or a line waits for a flag that isn't
 -- raised, or a move of a fileset waits.
 abbrev pub RunsEnd : Type 0
 RunsEnd =
     (script : Script) (journal : Journal) → IsSound script → LocksBytes script → IsQuiet script journal
     → RunRests script journal → NoneAwaits script (past_of journal) → NoMoveWaits journal → IsEnded script journal
+
+-- no exporter keeps a token any more: what its server wrote down is on its disk
+abbrev pub AllIsFlushed : Script → Journal → Type 0
+AllIsFlushed script journal = (server : ServerId) (token : Token) → TakesPart script (Server server)
+    → Reserved (doings_of (firsts_of journal server) server (past_of journal)) token → ⊥
+
+-- And the other way round: where a run is ended no node does anything more by itself but flush, none awaits a flag, and
+-- no move waits.
+abbrev pub EndedRunsRest : Type 0
+EndedRunsRest =
+    (script : Script) (journal : Journal) → IsRun script journal → IsEnded script journal
+    → AllIsFlushed script journal
+    → RunRests script journal × NoneAwaits script (past_of journal) × NoMoveWaits journal

@@ -49,7 +49,7 @@ OpenCallsStandAtServers =
 
 -- no node's next line awaits a flag that isn't raised
 abbrev pub NoneAwaits : Script → List Step → Type 0
-NoneAwaits script run = (node : Node) (line : Line) (flag : List ℕ)
+NoneAwaits script run = (node : Node) (line : Line) (flag : List ℕ) → TakesPart script node
     → IsNextLine (lines_of script node) (filter (λ s. is_node s.node node) run) line.number line
     → line.deed ≡ Await flag → IsRaised script run flag
 

@@ -1,8 +1,9 @@
-ghost use Rattle.run_goes_on.specs.Ended.{NoCallsAreOpen, NoWantsWait, RequestsStandAsWants, RunsEnd};
+ghost use Rattle.run_goes_on.specs.Ended.{EndedRunsRest, NoCallsAreOpen, NoWantsWait, RequestsStandAsWants, RunsEnd};
 ghost use Rattle.run_goes_on.specs.Resting.{HostsAreDone, HostsComeToTheirEnd, OpenCallsStandAtServers};
 ghost use Rattle.run_goes_on.specs.Waiting.{ByesAreAnswered, ClaimsAreAnswered, GivesAreKnown, GreetingsAreAnswered};
 ghost use Rattle.run_goes_on.specs.Waiting.{NoGracePeriodStands, NothingIsOwed, OpenCallsAwaitAnswers};
 ghost use Rattle.run_goes_on.specs.Waiting.{WhatWaitsHasCome};
+ghost use Rattle.run_goes_on.specs.Worked.{RestsWhole};
 
 /// After each step of a run a host that has an open call, and hasn't stopped, awaits an answer: a message of it is
 /// outstanding, which each lapse sends again. Refused: a call that waits for nothing.
@@ -95,4 +96,16 @@ pub fn no_calls_are_open()
 /// fileset waits. Refused: a late Bye of a live host that is answered by Bye; a stop of which a server doesn't hear.
 pub fn runs_end()
     ensures { RunsEnd }
+{}
+
+/// And the other way round: where a run is ended, and what its servers wrote down is on their disks, it rests, no line
+/// awaits a flag, and no move waits. Refused: a rest that no ended run comes to.
+pub fn ended_runs_rest()
+    ensures { EndedRunsRest }
+{}
+
+/// All that these laws ask for is so of a run of two hosts, from its first step to its end, over a restart. Refused: a
+/// premise that no run meets.
+pub fn a_run_rests()
+    ensures { RestsWhole }
 {}
