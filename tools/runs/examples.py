@@ -9,16 +9,16 @@ from server_rules import ServerPast, Turn
 from tree import kept_first
 from worked import *
 
-R1 = roster(1)
+ROSTER_OF_ONE = roster(1)
 
 
 def script_of_deeds(*deeds):
-    return Script(1, R1, (), (), None, tuple(Line(6 + i, ("c", 1), d) for i, d in enumerate(deeds)))
+    return Script(1, ROSTER_OF_ONE, (), (), None, tuple(Line(6 + i, ("c", 1), d) for i, d in enumerate(deeds)))
 
 
 WRITING, STOPPING = script_of_deeds(MakesCall(WRITES)), script_of_deeds(MakesCall(WRITES), Stop())
 LOCKING, LOCKING_ALONE = script_of_deeds(MakesCall(LOCKS), MakesCall(UNLOCKS)), script_of_deeds(MakesCall(LOCKS))
-CACHING = w.change(WRITING, roster=w.change(R1, hosts=((0, 4),)))
+CACHING = w.change(WRITING, roster=w.change(ROSTER_OF_ONE, hosts=((0, 4),)))
 RESTARTING = w.change(WRITING, lines=(Line(8, ("s", 1), Restart()),))
 
 
@@ -191,7 +191,7 @@ def main():
         say(n, "host", look.host_meets())
         if again is not None:
             say(n, "host, lapse", Look(script, 1, look.after, host_step(Lapse(), sent=again)).host_meets())
-    start = file_tree(R1)
+    start = file_tree(ROSTER_OF_ONE)
     start.roster = roster(2)
     start.hosts = list(roster(2).hosts)
     for n, (script, before, s, again) in enumerate(SERVER):
