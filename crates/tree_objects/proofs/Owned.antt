@@ -18,10 +18,13 @@ use Rattle.tree_objects.proofs.Pieces.{some_of}
 use Rattle.tree_objects.proofs.Stored.{all_alike}
 
 -- each element passes what all pass
-pub each_at : {X : Type 0} (p : X → Bool) (xs : List X) (k : ℕ) (d : X) → list_all p xs ≡ true → k < length xs → p (get_or xs k d) ≡ true
+each_at : {X : Type 0} (p : X → Bool) (xs : List X) (k : ℕ) (d : X) → list_all p xs ≡ true → k < length xs → p (get_or xs k d) ≡ true
 each_at p [] k d h l = absurd (omega (arith, l))
 each_at p (x ∷ xs) zero d h l = and_left _ _ h
 each_at p (x ∷ xs) (suc k) d h l = each_at p xs k d (and_right _ _ h) (omega (arith, l))
+
+pub each_item : {X : Type 0} (p : X → Bool) (xs : List X) (k : ℕ) (x : X) → list_all p xs ≡ true → k < length xs → x ≡ get_or xs k x → p x ≡ true
+each_item p xs k x h l e = ap p e ∙ each_at p xs k x h l
 
 -- a test that goes by the writer
 by_writer : (q : ℕ → Bool) (s : Stretch) → filter (λ byte. q byte.writer.0) (bytes_of s) ≡ cond (q s.writer.0) (bytes_of s) []

@@ -1,8 +1,9 @@
 -- Stretches of unsaved bytes: how they are added, cut and split.
-use Rattle.std.proofs.Common.{◌≡◌, ℕ, zero, suc, ◌+◌, ◌-◌, ◌<◌, ◌≤◌, ◌==◌, nat_le, nat_lt, Bool, true, false, ◌&&◌, not, cond, List, [], ◌∷◌, ◌++◌, length, filter, take, drop, min, refl, sym, ap, ◌∙◌, subst, arith, inl, inr}
-use Rattle.std.specs.List.{list_all, flat_map}
+use Rattle.std.proofs.Common.{◌≡◌, ℕ, zero, suc, ◌+◌, ◌-◌, ◌<◌, ◌≤◌, ◌==◌, nat_le, nat_lt, Bool, true, false, List, [], ◌∷◌, ◌++◌, length, filter, take, drop, min, Some, None, refl, sym, ap, ◌∙◌, arith, inl, inr, rules}
+use Rattle.std.specs.List.{list_all, slice_get}
+use Rattle.std.specs.Option.{option_map}
 use Rattle.std.proofs.Math.Seq.{drop-nil}
-use Rattle.std.proofs.lemmas.List.{append-nil, length-drop, append_assoc}
+use Rattle.std.proofs.lemmas.List.{append-nil, length-drop}
 use Rattle.std.proofs.lemmas.Grind.{common_steps, flat_map-append}
 use Rattle.std.proofs.lemmas.Bool.Decides.{leb_tells}
 use Rattle.base_types.specs.declared.ids.HostId.{HostId}
@@ -26,6 +27,43 @@ within_of stretch h =
 
 pub made_of : (stretch : Stretch) → 0 < length stretch.bytes → stretch.from + length stretch.bytes ≤ FILE_BYTES_MAX → is_stretch stretch ≡ true
 made_of stretch some within = and_both _ _ (grind (arith, common_steps, some)) (grind (arith, common_steps, within))
+
+-- its first byte
+pub first_of : (stretch : Stretch) → slice_get (bytes_of stretch) 0 ≡ option_map (λ value. record { at = stretch.from; value = value; writer = stretch.writer }) (slice_get stretch.bytes 0)
+first_of stretch = by_bytes stretch.bytes
+  where
+    by_bytes : (bytes : List ℕ) → slice_get (written stretch.writer stretch.from bytes) 0 ≡ option_map (λ value. record { at = stretch.from; value = value; writer = stretch.writer }) (slice_get bytes 0)
+    by_bytes [] = refl
+    by_bytes (x ∷ xs) = refl
+
+-- the first byte of all is that of the first stretch
+pub first_some : (ss : List Stretch) (s : Stretch) → list_all is_stretch ss ≡ true → slice_get ss 0 ≡ Some s → slice_get (all_bytes ss) 0 ≡ slice_get (bytes_of s) 0
+first_some [] s h e = absurd (search (rules, e))
+first_some (t ∷ ts) s h e =
+    let same : t ≡ s = search (rules, e) in
+    in_front t ts (and_left _ _ h) ∙ ap (λ x. slice_get (bytes_of x) 0) same
+  where
+    in_front : (t : Stretch) (ts : List Stretch) → is_stretch t ≡ true → slice_get (bytes_of t ++ all_bytes ts) 0 ≡ slice_get (bytes_of t) 0
+    in_front t ts k = by_bytes t.bytes (some_of t k)
+      where
+        by_bytes : (bytes : List ℕ) → 0 < length bytes → slice_get (written t.writer t.from bytes ++ all_bytes ts) 0 ≡ slice_get (written t.writer t.from bytes) 0
+        by_bytes [] l = absurd (omega (arith, l))
+        by_bytes (x ∷ xs) l = refl
+
+pub first_none : (ss : List Stretch) → slice_get ss 0 ≡ None → slice_get (all_bytes ss) 0 ≡ None
+first_none [] e = refl
+first_none (s ∷ ss) e = absurd (search (rules, e))
+
+-- there are no bytes where there are no stretches
+pub empty_alike : (ss : List Stretch) → list_all is_stretch ss ≡ true → (length ss == 0) ≡ (length (all_bytes ss) == 0)
+empty_alike [] h = refl
+empty_alike (s ∷ ss) h =
+    let none : (suc (length ss) == 0) ≡ false = grind (arith, common_steps) in
+    none ∙ sym (by_bytes s.bytes (some_of s (and_left _ _ h)))
+  where
+    by_bytes : (bytes : List ℕ) → 0 < length bytes → (length (written s.writer s.from bytes ++ all_bytes ss) == 0) ≡ false
+    by_bytes [] l = absurd (omega (arith, l))
+    by_bytes (x ∷ xs) l = grind (arith, common_steps)
 
 -- one stretch more
 pub one_more : (list next : List Stretch) (stretch : Stretch) → next ≡ list ++ stretch ∷ [] → all_bytes next ≡ all_bytes list ++ bytes_of stretch

@@ -40,6 +40,7 @@ impl Plain for Stretch {
 }
 
 /// The first byte of a stretch.
+#[tactic(auto, using(crate::proofs::Pieces::first_of))]
 pub(crate) fn first_byte(stretch: &Stretch) -> Option<Unsaved>
     ensures { result ≡ slice_get (bytes_of stretch.now) 0 }
 {
@@ -54,6 +55,7 @@ pub(crate) fn first_byte(stretch: &Stretch) -> Option<Unsaved>
 }
 
 /// Adds the bytes that a host writes from a position on, where there are some.
+#[tactic(auto, using(crate::proofs::Pieces::one_more, crate::proofs::Pieces::each_more, crate::proofs::Pieces::none_more, crate::proofs::Pieces::made_of))]
 pub(crate) fn push_written(
     list: &mut Vec<Stretch>,
     host: HostId,
@@ -148,7 +150,7 @@ fn push_rest(list: &mut Vec<Stretch>, stretch: &Stretch, from: usize) -> Result<
         ≡ all_bytes list.old.items ++ filter (λ byte. nat_le from byte.at) (bytes_of stretch.now)) }
     ensures each { OnOk result (list_all is_stretch list.old.items ≡ true → list_all is_stretch list.new.items ≡ true) }
 {
-    let length = stretch.bytes.len();
-    let skipped = from.saturating_sub(stretch.from as usize).min(length);
-    push_part(list, stretch, skipped, length)
+    let count = stretch.bytes.len();
+    let skipped = from.saturating_sub(stretch.from as usize).min(count);
+    push_part(list, stretch, skipped, count)
 }

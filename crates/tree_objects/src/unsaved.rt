@@ -29,6 +29,7 @@ ghost use Rattle.base_types.specs.declared.limits.TheConstants.{FILE_BYTES_MAX};
 ghost use Rattle.tree_objects.specs.Changes.{unsaved_after};
 ghost use Rattle.tree_objects.specs.Cuts.{IsCut, first_of, end_of, next_of};
 ghost use Rattle.tree_objects.specs.Files.{bytes_over};
+ghost use Rattle.tree_objects.specs.Positions.{written};
 ghost use Rattle.tree_objects.specs.Stores.{is_stored};
 ghost use Rattle.tree_objects.specs.Stretches.{bytes_of, all_bytes, is_stretch, are_stretches};
 
@@ -77,7 +78,7 @@ impl UnsavedBytes {
     pub fn is_empty(&self) -> bool
         ensures { result ≡ (length self.now == 0) }
     {
-        self.stretches.is_empty()
+        self.stretches.as_slice().is_empty()
     }
 
     /// The first of the bytes, where there is one.
@@ -96,7 +97,8 @@ impl UnsavedBytes {
     {
         let mut bytes = Items::new(self.stretches.alloc());
         for stretch in self.stretches.as_slice() {
-            push_bytes(&mut bytes, stretch)?;
+            let values = stretch.bytes.as_slice();
+            push_bytes(&mut bytes, stretch.writer, stretch.from, values)?;
         }
         Ok(bytes)
     }
@@ -190,16 +192,21 @@ impl Plain for UnsavedBytes {
     }
 }
 
-// Adds the bytes of a stretch, each with its position.
-fn push_bytes(list: &mut Items<Unsaved>, stretch: &Stretch) -> Result<(), NoMemory>
-    requires { is_stretch stretch.now ≡ true }
-    ensures { OnOk result (list.new ≡ list.old ++ bytes_of stretch.now) }
+// Adds the bytes that a host writes from a position on, each with its position.
+fn push_bytes(
+    list: &mut Items<Unsaved>,
+    host: HostId,
+    from: u32,
+    bytes: &[u8],
+) -> Result<(), NoMemory>
+    requires { from + length bytes.now ≤ FILE_BYTES_MAX }
+    ensures { OnOk result (list.new ≡ list.old ++ written host from bytes.now) }
 {
-    for (i, value) in stretch.bytes.as_slice().iter().enumerate() {
+    for (i, value) in bytes.iter().enumerate() {
         list.push(Unsaved {
-            at: stretch.from + i as u32,
+            at: from + i as u32,
             value: *value,
-            writer: stretch.writer,
+            writer: host,
         })?;
     }
     Ok(())
@@ -347,11 +354,11 @@ fn split_one(
         ≡ all_bytes left.old.items ++ filter (λ byte. not (is_stored host spans.now end byte)) (bytes_of stretch.now)) }
     ensures each { OnOk result (list_all is_stretch left.old.items ≡ true → list_all is_stretch left.new.items ≡ true) }
 {
-    let length = stretch.bytes.len();
+    let count = stretch.bytes.len();
     let mut done = 0;
-    while done < length {
+    while done < count {
         let part = part_at(stretch, host, spans, end, stretch.from as usize + done);
-        let next = (part.to - stretch.from as usize).min(length);
+        let next = (part.to - stretch.from as usize).min(count);
         if part.stored {
             push_part(stored, stretch, done, next)?;
         } else {
@@ -363,6 +370,7 @@ fn split_one(
 }
 
 /// Positions before `to`, the bytes at which all become kept, or none.
+#[derive(Clone, Copy)]
 struct Part {
     stored: bool,
     to: usize,
