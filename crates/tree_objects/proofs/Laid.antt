@@ -87,15 +87,15 @@ drop_twice [] (suc i) k = drop-nil k ∙ sym (drop-nil (suc i + k))
 drop_twice (x ∷ xs) (suc i) k = let z : suc i + k ≡ suc (i + k) = omega arith in rw z (drop_twice xs i k)
 
 -- a part that is copied in is laid
-pub laid_in : (xs bytes : List ℕ) (t m at skipped count k j : ℕ) → skipped ≡ min m (length bytes) → at ≡ min t (length xs) → count ≡ min (length bytes - skipped) (length xs - at) → k ≡ count → j ≡ count
-    → take at xs ++ (take j (drop skipped bytes) ++ drop k (drop at xs)) ≡ laid xs t (drop m bytes)
-laid_in xs bytes t m at skipped count k j s a c ek ej =
+pub laid_in : (xs bytes : List ℕ) (t m at skipped count k j : ℕ) (ys : List ℕ) → skipped ≡ min m (length bytes) → at ≡ min t (length xs) → count ≡ min (length bytes - skipped) (length xs - at) → k ≡ count → j ≡ count
+    → ys ≡ take j (drop skipped bytes) → take at xs ++ (ys ++ drop k (drop at xs)) ≡ laid xs t (drop m bytes)
+laid_in xs bytes t m at skipped count k j ys s a c ek ej put =
     let part = drop m bytes in
     let same : drop skipped bytes ≡ part = ap (λ n. drop n bytes) s ∙ drop_past bytes m in
     let long : length part ≡ length bytes - m = length-drop m bytes in
     let front : take at xs ≡ take t xs = ap (λ n. take n xs) a ∙ take_past xs t in
     let n : j ≡ min (length xs - t) (length part) = omega (arith, s, a, c, ej, long) in
-    let mid : take j (drop skipped bytes) ≡ take (length xs - t) part = ap (take j) same ∙ ap (λ n. take n part) n ∙ take_past part (length xs - t) in
+    let mid : ys ≡ take (length xs - t) part = put ∙ ap (take j) same ∙ ap (λ n. take n part) n ∙ take_past part (length xs - t) in
     let end : at + k ≡ min (t + length part) (length xs) = omega (arith, s, a, c, ek, long) in
     let back : drop k (drop at xs) ≡ drop (t + length part) xs = drop_twice xs at k ∙ ap (λ n. drop n xs) end ∙ drop_past xs (t + length part) in
-    ap (λ ys. ys ++ (take j (drop skipped bytes) ++ drop k (drop at xs))) front ∙ ap (λ ys. take t xs ++ (ys ++ drop k (drop at xs))) mid ∙ ap (λ ys. take t xs ++ (take (length xs - t) part ++ ys)) back
+    ap (λ zs. zs ++ (ys ++ drop k (drop at xs))) front ∙ ap (λ zs. take t xs ++ (zs ++ drop k (drop at xs))) mid ∙ ap (λ zs. take t xs ++ (take (length xs - t) part ++ zs)) back

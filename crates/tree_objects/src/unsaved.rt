@@ -12,6 +12,7 @@ ghost use Rattle.std.specs.Prelude.{
   min,
   max,
   not,
+  if◌then◌else◌,
   true,
   [],
   take,
@@ -359,14 +360,37 @@ fn split_one(
     while done < count {
         let part = part_at(stretch, host, spans, end, stretch.from as usize + done);
         let next = (part.to - stretch.from as usize).min(count);
-        if part.stored {
-            push_part(stored, stretch, done, next)?;
-        } else {
-            push_part(left, stretch, done, next)?;
-        }
+        push_either(stored, left, stretch, done, next, part.stored)?;
         done = next;
     }
     Ok(())
+}
+
+// Adds a part of a stretch to those that become kept, or to those that don't.
+fn push_either(
+    stored: &mut Vec<Stretch>,
+    left: &mut Vec<Stretch>,
+    stretch: &Stretch,
+    from: usize,
+    to: usize,
+    is_stored: bool,
+) -> Result<(), NoMemory>
+    requires ordered { from ≤ to }
+    requires within { to ≤ length stretch.now.bytes }
+    requires stretch { is_stretch stretch.now ≡ true }
+    ensures stored { OnOk result (all_bytes stored.new.items ≡ if is_stored then all_bytes stored.old.items
+        ++ written stretch.now.writer (stretch.now.from + from) (take (to - from) (drop from stretch.now.bytes))
+        else all_bytes stored.old.items) }
+    ensures left { OnOk result (all_bytes left.new.items ≡ if not is_stored then all_bytes left.old.items
+        ++ written stretch.now.writer (stretch.now.from + from) (take (to - from) (drop from stretch.now.bytes))
+        else all_bytes left.old.items) }
+    ensures each { OnOk result (list_all is_stretch left.old.items ≡ true → list_all is_stretch left.new.items ≡ true) }
+{
+    if is_stored {
+        push_part(stored, stretch, from, to)
+    } else {
+        push_part(left, stretch, from, to)
+    }
 }
 
 /// Positions before `to`, the bytes at which all become kept, or none.
