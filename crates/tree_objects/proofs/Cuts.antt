@@ -78,35 +78,44 @@ begin_in_turn (s ∷ ss) zero (suc j) d k h o l =
 begin_in_turn (s ∷ ss) (suc i) zero d k h o l = absurd (omega (arith, o))
 begin_in_turn (s ∷ ss) (suc i) (suc j) d k h o l = begin_in_turn ss i j d (and_right _ _ k) (rise_behind (bytes_of s) (all_bytes ss) h) (omega (arith, o)) (omega (arith, l))
 
+lt_trans : (a b c : ℕ) → nat_lt a b ≡ true → nat_lt b c ≡ true → nat_lt a c ≡ true
+lt_trans a b c h k = grind (arith, common_steps, h, k)
+
 -- those that begin below a position stand before the others
 pub parts_rise : (end : ℕ) (ss : List Stretch) → are_stretches ss ≡ true → IsPartitionedBy (λ stretch. nat_lt stretch.from end) ss
 parts_rise end ss h = IsPartitionedBy-ltb (λ stretch. stretch.from) ss end (λ i j d o l. begin_in_turn ss i j d (and_left _ _ h) (and_right _ _ h) o l)
 
+-- the bytes before a stretch stand below its first
+before_next : (xs more : List Unsaved) (t : Stretch) → is_stretch t ≡ true → positions_rise (xs ++ (bytes_of t ++ more)) ≡ true → list_all (λ byte. nat_lt byte.at t.from) xs ≡ true
+before_next xs more t k h = by_bytes t.bytes (some_of t k) h
+  where
+    by_bytes : (bytes : List ℕ) → 0 < length bytes → positions_rise (xs ++ (written t.writer t.from bytes ++ more)) ≡ true → list_all (λ byte. nat_lt byte.at t.from) xs ≡ true
+    by_bytes [] l h = absurd (omega (arith, l))
+    by_bytes (y ∷ ys) l h = rise_before xs (written t.writer (t.from + 1) ys ++ more) (record { at = t.from; value = y; writer = t.writer }) h
+
 -- the stretches before the last one that begins below a position end there or before
 pub below_of : (end : ℕ) (ss : List Stretch) (i : ℕ) → list_all is_stretch ss ≡ true → positions_rise (all_bytes ss) ≡ true → i ≤ length ss → AllWithin (λ stretch. nat_lt stretch.from end ≡ true) ss 0 i
     → list_all (λ byte. nat_lt byte.at end) (all_bytes (take (i - 1) ss)) ≡ true
-below_of end ss zero k h b w = let e : zero - 1 ≡ zero = omega arith in rw e refl
+below_of end ss zero k h b w =
+    let e : zero - 1 ≡ zero = omega arith in
+    subst (λ n. list_all (λ byte. nat_lt byte.at end) (all_bytes (take n ss)) ≡ true) (sym e) refl
 below_of end [] (suc i) k h b w = absurd (omega (arith, b))
-below_of end (s ∷ ss) (suc zero) k h b w = let e : suc zero - 1 ≡ zero = omega arith in rw e refl
+below_of end (s ∷ ss) (suc zero) k h b w =
+    let e : suc zero - 1 ≡ zero = omega arith in
+    subst (λ n. list_all (λ byte. nat_lt byte.at end) (all_bytes (take n (s ∷ ss))) ≡ true) (sym e) refl
 below_of end (s ∷ []) (suc (suc i)) k h b w = absurd (omega (arith, b))
 below_of end (s ∷ t ∷ ts) (suc (suc i)) k h b w =
+    let low : Unsaved → Bool = λ byte. nat_lt byte.at end in
     let e : suc (suc i) - 1 ≡ suc i = omega arith in
     let f : suc i - 1 ≡ i = omega arith in
-    let more : list_all (λ byte. nat_lt byte.at end) (all_bytes (take (suc i - 1) (t ∷ ts))) ≡ true
+    let more : list_all low (all_bytes (take (suc i - 1) (t ∷ ts))) ≡ true
     = below_of end (t ∷ ts) (suc i) (and_right _ _ k) (rise_behind (bytes_of s) (all_bytes (t ∷ ts)) h) (omega (arith, b)) (λ j d l u. w (suc j) d (omega arith) (omega (arith, u))) in
     let next : nat_lt t.from end ≡ true = w (suc zero) t (omega arith) (omega arith) in
-    let before : list_all (λ byte. nat_lt byte.at t.from) (bytes_of s) ≡ true = before_next s t (all_bytes ts) (and_left _ _ (and_right _ _ k)) h in
-    let here : list_all (λ byte. nat_lt byte.at end) (bytes_of s) ≡ true
-    = all_implied (λ byte. nat_lt byte.at t.from) (λ byte. nat_lt byte.at end) (λ byte m. grind (arith, common_steps, m, next)) (bytes_of s) before in
-    rw e (all_append (λ byte. nat_lt byte.at end) (bytes_of s) (all_bytes (take i (t ∷ ts))) here
-    (subst (λ n. list_all (λ byte. nat_lt byte.at end) (all_bytes (take n (t ∷ ts))) ≡ true) f more))
-  where
-    before_next : (s t : Stretch) (more : List Unsaved) → is_stretch t ≡ true → positions_rise (bytes_of s ++ (bytes_of t ++ more)) ≡ true → list_all (λ byte. nat_lt byte.at t.from) (bytes_of s) ≡ true
-    before_next s t more k h = by_bytes t.bytes (some_of t k) h
-      where
-        by_bytes : (bytes : List ℕ) → 0 < length bytes → positions_rise (bytes_of s ++ (written t.writer t.from bytes ++ more)) ≡ true → list_all (λ byte. nat_lt byte.at t.from) (bytes_of s) ≡ true
-        by_bytes [] l h = absurd (omega (arith, l))
-        by_bytes (x ∷ xs) l h = rise_before (bytes_of s) (written t.writer (t.from + 1) xs ++ more) (record { at = t.from; value = x; writer = t.writer }) h
+    let before : list_all (λ byte. nat_lt byte.at t.from) (bytes_of s) ≡ true = before_next (bytes_of s) (all_bytes ts) t (and_left _ _ (and_right _ _ k)) h in
+    let here : list_all low (bytes_of s) ≡ true
+    = all_implied (λ byte. nat_lt byte.at t.from) low (λ byte m. lt_trans byte.at t.from end m next) (bytes_of s) before in
+    subst (λ n. list_all low (all_bytes (take n (s ∷ t ∷ ts))) ≡ true) (sym e)
+    (all_append low (bytes_of s) (all_bytes (take i (t ∷ ts))) here (subst (λ n. list_all low (all_bytes (take n (t ∷ ts))) ≡ true) f more))
 
 -- the others have no byte below it
 pub above_of : (end : ℕ) (ss : List Stretch) (i : ℕ) → AllWithin (λ stretch. nat_lt stretch.from end ≡ false) ss i (length ss) → list_all (λ byte. nat_le end byte.at) (all_bytes (drop i ss)) ≡ true

@@ -1,7 +1,7 @@
 -- Stretches of unsaved bytes: how they are added, cut and split.
 use Rattle.std.proofs.Common.{◌≡◌, ℕ, zero, suc, ◌+◌, ◌-◌, ◌<◌, ◌≤◌, ◌==◌, nat_le, nat_lt, Bool, true, false, List, [], ◌∷◌, ◌++◌, length, filter, take, drop, min, Some, None, refl, sym, ap, ◌∙◌, arith, inl, inr, rules}
 use Rattle.std.specs.List.{list_all, slice_get}
-use Rattle.std.specs.Option.{option_map}
+use Rattle.std.specs.Option.{is_some, option_map, unwrap_or}
 use Rattle.std.proofs.Math.Seq.{drop-nil}
 use Rattle.std.proofs.lemmas.List.{append-nil, length-drop}
 use Rattle.std.proofs.lemmas.Grind.{common_steps, flat_map-append}
@@ -37,22 +37,22 @@ first_of stretch = by_bytes stretch.bytes
     by_bytes (x ∷ xs) = refl
 
 -- the first byte of all is that of the first stretch
-pub first_some : (ss : List Stretch) (s : Stretch) → list_all is_stretch ss ≡ true → slice_get ss 0 ≡ Some s → slice_get (all_bytes ss) 0 ≡ slice_get (bytes_of s) 0
-first_some [] s h e = absurd (search (rules, e))
-first_some (t ∷ ts) s h e =
-    let same : t ≡ s = search (rules, e) in
-    in_front t ts (and_left _ _ h) ∙ ap (λ x. slice_get (bytes_of x) 0) same
+in_front : (t : Stretch) (more : List Unsaved) → is_stretch t ≡ true → slice_get (bytes_of t ++ more) 0 ≡ slice_get (bytes_of t) 0
+in_front t more k = by_bytes t.bytes (some_of t k)
   where
-    in_front : (t : Stretch) (ts : List Stretch) → is_stretch t ≡ true → slice_get (bytes_of t ++ all_bytes ts) 0 ≡ slice_get (bytes_of t) 0
-    in_front t ts k = by_bytes t.bytes (some_of t k)
-      where
-        by_bytes : (bytes : List ℕ) → 0 < length bytes → slice_get (written t.writer t.from bytes ++ all_bytes ts) 0 ≡ slice_get (written t.writer t.from bytes) 0
-        by_bytes [] l = absurd (omega (arith, l))
-        by_bytes (x ∷ xs) l = refl
+    by_bytes : (bytes : List ℕ) → 0 < length bytes → slice_get (written t.writer t.from bytes ++ more) 0 ≡ slice_get (written t.writer t.from bytes) 0
+    by_bytes [] l = absurd (omega (arith, l))
+    by_bytes (x ∷ xs) l = refl
+
+pub first_some : (ss : List Stretch) (s : Stretch) → list_all is_stretch ss ≡ true → slice_get ss 0 ≡ Some s → slice_get (all_bytes ss) 0 ≡ slice_get (bytes_of s) 0
+first_some [] s h e = let k : false ≡ true = ap is_some e in absurd (search (rules, k))
+first_some (t ∷ ts) s h e =
+    let same : t ≡ s = ap (λ o. unwrap_or o t) e in
+    in_front t (all_bytes ts) (and_left _ _ h) ∙ ap (λ x. slice_get (bytes_of x) 0) same
 
 pub first_none : (ss : List Stretch) → slice_get ss 0 ≡ None → slice_get (all_bytes ss) 0 ≡ None
 first_none [] e = refl
-first_none (s ∷ ss) e = absurd (search (rules, e))
+first_none (s ∷ ss) e = let k : true ≡ false = ap is_some e in absurd (search (rules, k))
 
 -- there are no bytes where there are no stretches
 pub empty_alike : (ss : List Stretch) → list_all is_stretch ss ≡ true → (length ss == 0) ≡ (length (all_bytes ss) == 0)

@@ -1,6 +1,7 @@
 -- The part of stretches in which all bytes stand that are stored, and how a stretch is split.
 use Rattle.std.proofs.Common.{◌≡◌, ℕ, zero, suc, ◌+◌, ◌-◌, ◌<◌, ◌≤◌, ◌==◌, min, max, nat_le, nat_lt, Bool, true, false, ◌&&◌, ◌||◌, not, cond, List, [], ◌∷◌, ◌++◌, length, filter, take, drop, Some, None, append_assoc, refl, sym, ap, ◌∙◌, subst, arith, rules}
 use Rattle.std.specs.List.{find, fold, list_all, splice}
+use Rattle.std.specs.Option.{is_some, unwrap_or}
 use Rattle.std.proofs.lemmas.List.{append-nil}
 use Rattle.std.proofs.lemmas.List.Elements.{filter-append}
 use Rattle.std.proofs.lemmas.Grind.{common_steps}
@@ -264,11 +265,11 @@ next_none (s ∷ ss) at e p h l u =
 
 -- a span that was found has the position, and lies in the spans
 found_in : (spans : List Span) (at p : ℕ) (span : Span) → find (λ span. has_byte span at) spans ≡ Some span → at ≤ p → p < span.to → in_spans spans p ≡ true
-found_in [] at p span e l u = absurd (search (rules, e))
+found_in [] at p span e l u = let k : false ≡ true = ap is_some e in absurd (search (rules, k))
 found_in (s ∷ ss) at p span e l u =
     elim (has_byte s at) as (λ t. has_byte s at ≡ t → cond t (Some s) (find (λ span. has_byte span at) ss) ≡ Some span → in_spans (s ∷ ss) p ≡ true) [
       | true ↦ λ k f.
-          let same : s ≡ span = search (rules, f) in
+          let same : s ≡ span = ap (λ o. unwrap_or o s) f in
           let a : nat_le s.from at ≡ true = and_left _ _ k in
           let v : p < s.to = subst (λ x. p < x.to) (sym same) u in
           let b : nat_le s.from p ≡ true = grind (arith, common_steps, a, l) in
@@ -282,11 +283,11 @@ found_in (s ∷ ss) at p span e l u =
     or_true false = refl
 
 found_end : (spans : List Span) (at : ℕ) (span : Span) → find (λ span. has_byte span at) spans ≡ Some span → at < span.to
-found_end [] at span e = absurd (search (rules, e))
+found_end [] at span e = let k : false ≡ true = ap is_some e in absurd (search (rules, k))
 found_end (s ∷ ss) at span e =
     elim (has_byte s at) as (λ t. has_byte s at ≡ t → cond t (Some s) (find (λ span. has_byte span at) ss) ≡ Some span → at < span.to) [
       | true ↦ λ k f.
-          let same : s ≡ span = search (rules, f) in
+          let same : s ≡ span = ap (λ o. unwrap_or o s) f in
           let b : nat_lt at s.to ≡ true = and_right _ _ k in
           let c : at < s.to = grind (arith, common_steps, b) in
           subst (λ x. at < x.to) same c
@@ -297,46 +298,42 @@ found_none : (spans : List Span) (at : ℕ) → find (λ span. has_byte span at)
 found_none [] at e = refl
 found_none (s ∷ ss) at e =
     elim (has_byte s at) as (λ t. cond t (Some s) (find (λ span. has_byte span at) ss) ≡ None → (t || in_spans ss at) ≡ false) [
-      | true ↦ λ f. absurd (search (rules, f))
+      | true ↦ λ f. let k : true ≡ false = ap is_some f in absurd (search (rules, k))
       | false ↦ λ f. found_none ss at f
     ] e
 
--- what isn't the host's stays, and what isn't below the end
-pub not_stored : (host : HostId) (spans : List Span) (end : ℕ) (writer : HostId) (at place value : ℕ) → (writer.0 == host.0) ≡ false
-    → is_stored host spans end (record { at = place; value = value; writer = writer }) ≡ false
-not_stored host spans end writer at place value h = rw h refl
+-- a host stores its bytes alone
+pub own_limit : (host writer : HostId) (spans : List Span) (end place value : ℕ)
+    → (nat_lt place (cond (writer.0 == host.0) end 0) && in_spans spans place) ≡ is_stored host spans end (record { at = place; value = value; writer = writer })
+own_limit host writer spans end place value =
+    let none : nat_lt place 0 ≡ false = grind (arith, common_steps) in
+    elim (writer.0 == host.0) as (λ t. (nat_lt place (cond t end 0) && in_spans spans place) ≡ (t && nat_lt place end && in_spans spans place)) [
+      | true ↦ refl
+      | false ↦ rw none refl
+    ]
 
-pub past_stored : (host : HostId) (spans : List Span) (end : ℕ) (writer : HostId) (at place value : ℕ) → end ≤ at → at ≤ place
-    → is_stored host spans end (record { at = place; value = value; writer = writer }) ≡ false
-past_stored host spans end writer at place value h l =
-    let e : nat_lt place end ≡ false = grind (arith, common_steps, h, l) in rw e (none (writer.0 == host.0))
-  where
-    none : (b : Bool) → (b && false && in_spans spans place) ≡ false
-    none true = refl
-    none false = refl
+-- nothing from the end on is stored
+pub past_stored : (spans : List Span) (end at place : ℕ) → end ≤ at → at ≤ place → (nat_lt place end && in_spans spans place) ≡ false
+past_stored spans end at place h l = let e : nat_lt place end ≡ false = grind (arith, common_steps, h, l) in rw e refl
 
--- what lies in a span that was found is stored
-pub span_stored : (host : HostId) (spans : List Span) (end : ℕ) (writer : HostId) (at place value : ℕ) (span : Span) → (writer.0 == host.0) ≡ true
-    → find (λ span. has_byte span at) spans ≡ Some span → at ≤ place → place < min end span.to
-    → is_stored host spans end (record { at = place; value = value; writer = writer }) ≡ true
-span_stored host spans end writer at place value span h f l u =
-    let e : nat_lt place end ≡ true = below_end in
+-- what lies in a span that was found is
+pub span_stored : (spans : List Span) (end at place : ℕ) (span : Span) → find (λ span. has_byte span at) spans ≡ Some span → at ≤ place → place < min end span.to
+    → (nat_lt place end && in_spans spans place) ≡ true
+span_stored spans end at place span f l u =
+    let v : place < end = omega (arith, u) in
+    let e : nat_lt place end ≡ true = grind (arith, common_steps, v) in
     let g : in_spans spans place ≡ true = found_in spans at place span f l (omega (arith, u)) in
-    rw (h, e, g) refl
-  where
-    below_end : nat_lt place end ≡ true
-    below_end = let v : place < end = omega (arith, u) in grind (arith, common_steps, v)
+    rw (e, g) refl
 
 pub span_more : (spans : List Span) (end at : ℕ) (span : Span) → at < end → find (λ span. has_byte span at) spans ≡ Some span → at < min end span.to
 span_more spans end at span h f = let g = found_end spans at span f in omega (arith, h, g)
 
 -- what lies before the next span isn't
-pub between_stored : (host : HostId) (spans : List Span) (end : ℕ) (writer : HostId) (at place value : ℕ)
-    → find (λ span. has_byte span at) spans ≡ None → at ≤ place → place < next_of spans at
-    → is_stored host spans end (record { at = place; value = value; writer = writer }) ≡ false
-between_stored host spans end writer at place value f l u =
+pub between_stored : (spans : List Span) (end at place : ℕ) → find (λ span. has_byte span at) spans ≡ None → at ≤ place → place < next_of spans at
+    → (nat_lt place end && in_spans spans place) ≡ false
+between_stored spans end at place f l u =
     let g : in_spans spans place ≡ false = next_none spans at FILE_BYTES_MAX place (found_none spans at f) l u in
-    rw g (none ((writer.0 == host.0) && nat_lt place end))
+    rw g (none (nat_lt place end))
   where
     none : (b : Bool) → (b && false) ≡ false
     none true = refl

@@ -6,6 +6,7 @@ ghost use Rattle.std.specs.Prelude.{
   ◌<◌,
   ◌++◌,
   ◌==◌,
+  ◌&&◌,
   ℕ,
   nat_lt,
   nat_le,
@@ -25,7 +26,7 @@ ghost use Rattle.std.specs.Prelude.{
   OnErr,
 };
 ghost use Rattle.std.specs.List.{find, list_all, splice};
-ghost use Rattle.base_types.specs.Spans.{has_byte};
+ghost use Rattle.base_types.specs.Spans.{has_byte, in_spans};
 ghost use Rattle.base_types.specs.declared.limits.TheConstants.{FILE_BYTES_MAX};
 ghost use Rattle.tree_objects.specs.Changes.{unsaved_after};
 ghost use Rattle.tree_objects.specs.Cuts.{IsCut, first_of, end_of, next_of};
@@ -356,9 +357,10 @@ fn split_one(
     ensures each { OnOk result (list_all is_stretch left.old.items ≡ true → list_all is_stretch left.new.items ≡ true) }
 {
     let count = stretch.bytes.len();
+    let limit = limit_of(stretch, host, end);
     let mut done = 0;
     while done < count {
-        let part = part_at(stretch, host, spans, end, stretch.from as usize + done);
+        let part = part_at(spans, limit, stretch.from as usize + done);
         let next = (part.to - stretch.from as usize).min(count);
         push_either(stored, left, stretch, done, next, part.stored)?;
         done = next;
@@ -400,19 +402,44 @@ struct Part {
     to: usize,
 }
 
-// The part of a stretch from a position on, as a host stores spans below `end`.
-fn part_at(stretch: &Stretch, host: HostId, spans: &[Span], end: usize, at: usize) -> Part
+// Below which position the bytes of a stretch become kept, as a host stores.
+fn limit_of(stretch: &Stretch, host: HostId, end: usize) -> usize
+    ensures { result ≡ if stretch.now.writer.0 == host.0 then end else 0 }
+{
+    if stretch.writer == host { end } else { 0 }
+}
+
+// The part from a position on, as spans are stored below `end`.
+#[tactic(auto, using(crate::proofs::Stored::past_stored))]
+fn part_at(spans: &[Span], end: usize, at: usize) -> Part
     requires { at < FILE_BYTES_MAX }
     ensures more { at < result.to }
-    ensures alike { (place value : ℕ) → at ≤ place → place < result.to
-        → is_stored host spans.now end (record { at = place; value = value; writer = stretch.now.writer }) ≡ result.stored }
+    ensures alike { (place : ℕ) → at ≤ place → place < result.to
+        → (nat_lt place end && in_spans spans.now place) ≡ result.stored }
 {
-    if stretch.writer != host || end <= at {
-        return Part {
+    if at < end {
+        part_below(spans, end, at)
+    } else {
+        Part {
             stored: false,
             to: FILE_BYTES_MAX as usize,
-        };
+        }
     }
+}
+
+#[tactic(auto, using(
+    crate::proofs::Stored::span_stored,
+    crate::proofs::Stored::span_more,
+    crate::proofs::Stored::between_stored,
+    crate::proofs::Stored::next_more
+))]
+fn part_below(spans: &[Span], end: usize, at: usize) -> Part
+    requires within { at < FILE_BYTES_MAX }
+    requires below { at < end }
+    ensures more { at < result.to }
+    ensures alike { (place : ℕ) → at ≤ place → place < result.to
+        → (nat_lt place end && in_spans spans.now place) ≡ result.stored }
+{
     match span_with(spans, at) {
         Some(span) => Part {
             stored: true,

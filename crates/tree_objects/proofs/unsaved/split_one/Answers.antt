@@ -1,7 +1,8 @@
-use Rattle.std.proofs.Common.{◌≡◌, ◌≤◌, ◌<◌, ◌+◌, not, length, ap, arith}
+use Rattle.std.proofs.Common.{◌≡◌, ◌≤◌, ◌<◌, ◌+◌, ◌&&◌, ℕ, nat_lt, not, length, sym, ap, ◌∙◌, arith}
+use Rattle.base_types.specs.Spans.{in_spans}
 use Rattle.tree_objects.specs.Stores.{is_stored}
 use Rattle.tree_objects.proofs.Pieces.{within_of}
-use Rattle.tree_objects.proofs.Stored.{none_added, part_added, all_added}
+use Rattle.tree_objects.proofs.Stored.{none_added, part_added, all_added, own_limit}
 use Rattle.tree_objects.proofs.unsaved.split_one.Goals as goal
 
 pub loop-done-init : goal.loop-done-init
@@ -20,7 +21,9 @@ loop-done-preserved c =
     let stretch = c.args.stretch.now in let bytes = stretch.bytes in let from = stretch.from in
     let done = c.loop-done.done in let next = c.min-next.result in let part = c.part_at-part.result in
     let inv = c.loop-done.invariant in let lt = c.loop-done-test.true in let long = c.len-count.ensures in
-    let n = c.min-next.ensures in let more = c.part_at-part.ensures.more in let alike = c.part_at-part.ensures.alike in
+    let n = c.min-next.ensures in let more = c.part_at-part.ensures.more in let host = c.args.host in let spans = c.args.spans.now in let end = c.args.end in
+    let alike : (place value : ℕ) → from + done ≤ place → place < part.to → is_stored host spans end (record { at = place; value = value; writer = stretch.writer }) ≡ part.stored
+    = λ place value l h. sym (own_limit host stretch.writer spans end place value) ∙ ap (λ k. nat_lt place k && in_spans spans place) (sym c.limit_of-limit.ensures) ∙ c.part_at-part.ensures.alike place l h in
     let o : done ≤ next = omega (arith, n, more, lt, long) in
     let u : next ≤ length bytes = omega (arith, n, long) in
     let v : from + next ≤ part.to = omega (arith, n, more) in
