@@ -61,6 +61,7 @@ struct Running {
 }
 
 // The last span after one more stretch; one that is complete is added to the others.
+#[tactic(auto, using(crate::proofs::Pieces::some_of, crate::proofs::Pieces::within_of))]
 fn joined(spans: &mut Items<Span>, last: Running, stretch: &Stretch) -> Result<Running, NoMemory>
     requires ordered { last.from ≤ last.to }
     requires stretch { is_stretch stretch.now ≡ true }

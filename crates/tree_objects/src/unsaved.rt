@@ -77,6 +77,7 @@ impl UnsavedBytes {
         }
     }
 
+    #[tactic(auto, using(crate::proofs::Pieces::empty_alike, crate::proofs::Observed::and_left))]
     pub fn is_empty(&self) -> bool
         ensures { result ≡ (length self.now == 0) }
     {
@@ -84,6 +85,7 @@ impl UnsavedBytes {
     }
 
     /// The first of the bytes, where there is one.
+    #[tactic(auto, using(crate::proofs::Pieces::first_some, crate::proofs::Pieces::first_none, crate::proofs::Observed::and_left))]
     pub fn first(&self) -> Option<Unsaved>
         ensures { result ≡ slice_get self.now 0 }
     {
