@@ -68,7 +68,7 @@ all_passing test (x ∷ xs) =
     [ true ↦ λ e. and_both _ _ (sym e) rest | false ↦ λ e. rest ] refl
 
 -- written bytes stand from the first position on
-written_from : (host : HostId) (m at : ℕ) (bytes : List ℕ) → m ≤ at → list_all (λ b. nat_le m b.at) (written host at bytes) ≡ true
+pub written_from : (host : HostId) (m at : ℕ) (bytes : List ℕ) → m ≤ at → list_all (λ b. nat_le m b.at) (written host at bytes) ≡ true
 written_from host m at [] h = refl
 written_from host m at (x ∷ xs) h = and_both _ _ (grind (arith, common_steps, h)) (written_from host m (at + 1) xs (omega (arith, h)))
 

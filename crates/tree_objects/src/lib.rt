@@ -8,6 +8,7 @@ mod laws;
 mod losses;
 mod object;
 mod storing;
+mod stretch;
 mod unsaved;
 mod writing;
 

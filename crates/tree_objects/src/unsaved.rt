@@ -6,12 +6,14 @@ ghost use Rattle.std.specs.Prelude.{
   ◌<◌,
   ◌++◌,
   ◌==◌,
-  nat_eq,
+  ◌&&◌,
+  ℕ,
   nat_lt,
   nat_le,
   min,
   max,
   not,
+  if◌then◌else◌,
   true,
   [],
   take,
@@ -19,25 +21,24 @@ ghost use Rattle.std.specs.Prelude.{
   slice_get,
   length,
   filter,
-  is_some,
   IfOk,
-  IfSome,
   OnOk,
   OnErr,
 };
-ghost use Rattle.std.specs.List.{splice, position};
-ghost use Rattle.std.specs.Option.{option_copied};
+ghost use Rattle.std.specs.List.{find, list_all, splice};
 ghost use Rattle.base_types.specs.Spans.{has_byte, in_spans};
 ghost use Rattle.base_types.specs.declared.limits.TheConstants.{FILE_BYTES_MAX};
-ghost use Rattle.tree_objects.specs.Changes.{written, unsaved_after};
-ghost use Rattle.tree_objects.specs.Cuts.{IsCut, first_of, end_of};
+ghost use Rattle.tree_objects.specs.Changes.{unsaved_after};
+ghost use Rattle.tree_objects.specs.Cuts.{IsCut, first_of, end_of, next_of};
 ghost use Rattle.tree_objects.specs.Files.{bytes_over};
-ghost use Rattle.tree_objects.specs.Positions.{positions_rise};
+ghost use Rattle.tree_objects.specs.Positions.{written};
 ghost use Rattle.tree_objects.specs.Stores.{is_stored};
+ghost use Rattle.tree_objects.specs.Stretches.{bytes_of, all_bytes, is_stretch, are_stretches};
 
 use crate::bytes::{bytes_over, lengthen, put_each};
 use crate::content::Unsaved;
-use base_types::{HostId, Items, NoMemory, Plain, Span};
+use crate::stretch::{Stretch, first_byte, push_above, push_below, push_part, push_written};
+use base_types::{FILE_BYTES_MAX, HostId, Items, NoMemory, Plain, Span};
 use std::alloc::Global;
 use std::marker::Model;
 use std::mem;
@@ -45,25 +46,25 @@ use std::mem;
 /// The bytes of a file that aren't stored yet, in the order of their positions, each of which has at most one.
 /// Contracts see it as the list of these bytes.
 pub struct UnsavedBytes {
-    bytes: Items<Unsaved>,
+    stretches: Items<Stretch>,
 }
 
 impl Drop for UnsavedBytes {
     fn drop(self) {
-        let UnsavedBytes { bytes: _ } = self;
+        let UnsavedBytes { stretches: _ } = self;
     }
 }
 
 impl Model for UnsavedBytes {
     ghost use Rattle.std.specs.Prelude.{◌≡◌, true, List};
     ghost use Rattle.tree_objects.specs.declared.content.Unsaved.{Unsaved};
-    ghost use Rattle.tree_objects.specs.Positions.{positions_rise};
+    ghost use Rattle.tree_objects.specs.Stretches.{all_bytes, are_stretches};
 
     ghost Value = { List Unsaved };
 
-    ghost view = { λ a. a.bytes };
+    ghost view = { λ a. all_bytes a.stretches };
 
-    ghost invariant = { λ a. positions_rise a.bytes ≡ true };
+    ghost invariant = { λ a. are_stretches a.stretches ≡ true };
 }
 
 impl UnsavedBytes {
@@ -72,22 +73,46 @@ impl UnsavedBytes {
         ensures { result ≡ [] }
     {
         UnsavedBytes {
-            bytes: Items::new(alloc),
+            stretches: Items::new(alloc),
         }
     }
 
-    /// The bytes, in the order of their positions. It takes no memory.
-    pub fn as_slice(&self) -> &[Unsaved]
-        ensures { result.now ≡ self.now }
+    #[tactic(auto, using(crate::proofs::Pieces::empty_alike, crate::proofs::Observed::and_left))]
+    pub fn is_empty(&self) -> bool
+        ensures { result ≡ (length self.now == 0) }
     {
-        self.bytes.as_slice()
+        self.stretches.as_slice().is_empty()
     }
 
     /// The first of the bytes, where there is one.
-    pub fn first(&self) -> Option<&Unsaved>
-        ensures { option_copied result ≡ slice_get self.now 0 }
+    #[tactic(auto, using(crate::proofs::Pieces::first_some, crate::proofs::Pieces::first_none, crate::proofs::Observed::and_left))]
+    pub fn first(&self) -> Option<Unsaved>
+        ensures { result ≡ slice_get self.now 0 }
     {
-        self.bytes.at(0)
+        match self.stretches.as_slice().first() {
+            Some(stretch) => first_byte(stretch),
+            None => None,
+        }
+    }
+
+    /// The bytes, in the order of their positions.
+    pub fn to_items(&self) -> Result<Items<Unsaved>, NoMemory>
+        ensures { IfOk result (λ bytes. bytes ≡ self.now) }
+    {
+        let mut bytes = Items::new(self.stretches.alloc());
+        for stretch in self.stretches.as_slice() {
+            let values = stretch.bytes.as_slice();
+            push_bytes(&mut bytes, stretch.writer, stretch.from, values)?;
+        }
+        Ok(bytes)
+    }
+
+    /// The stretches in which the bytes stand.
+    pub(crate) fn stretches(&self) -> &[Stretch]
+        ensures value { all_bytes result.now ≡ self.now }
+        ensures each { list_all is_stretch result.now ≡ true }
+    {
+        self.stretches.as_slice()
     }
 
     /// The bytes of a file from the position `from` on and before `end`: the unsaved ones where there are any, else the
@@ -100,7 +125,9 @@ impl UnsavedBytes {
     ) -> Result<Items<u8>, NoMemory>
         ensures { IfOk result (λ bytes. bytes ≡ bytes_over kept.now self.now from (end - from)) }
     {
-        let part = part_of(self.bytes.as_slice(), from, end);
+        let stretches = self.stretches.as_slice();
+        let cut = cut_at(stretches, from, end);
+        let part = &stretches[cut.from..cut.to];
         bytes_over(kept, part, from, end.saturating_sub(from))
     }
 
@@ -110,13 +137,12 @@ impl UnsavedBytes {
         ensures ok { OnOk result (self.new ≡ unsaved_after self.old host from bytes.now) }
         ensures err { OnErr result (self.new ≡ self.old) }
     {
-        let cut = cut_at(
-            self.bytes.as_slice(),
-            from as usize,
-            from as usize + bytes.len(),
-        );
-        let written = written(self.bytes.alloc(), host, from, bytes)?;
-        put_between(&mut self.bytes, cut, written)?;
+        let alloc = self.stretches.alloc();
+        let stretches = self.stretches.as_slice();
+        let cut = cut_at(stretches, from as usize, from as usize + bytes.len());
+        let part = &stretches[cut.from..cut.to];
+        let written = written_over(alloc, part, host, from, bytes)?;
+        put_between(&mut self.stretches, cut, written)?;
         Ok(())
     }
 
@@ -124,7 +150,7 @@ impl UnsavedBytes {
     pub(crate) fn forget(&mut self, host: HostId)
         ensures { self.new ≡ filter (λ byte. not (byte.writer.0 == host.0)) self.old }
     {
-        drop_own(&mut self.bytes, host);
+        drop_own(&mut self.stretches, host);
     }
 
     /// Stores what a host has in these spans below the position `end`: its bytes go, over the kept ones, of which the
@@ -142,13 +168,13 @@ impl UnsavedBytes {
             (self.new ≡ filter (λ byte. not (is_stored host spans.now end byte)) self.old) }
         ensures err { OnErr result ((self.new ≡ self.old) × (kept.new ≡ kept.old)) }
     {
-        let bytes = self.bytes.as_slice();
-        let cut = cut_of(bytes, spans, end);
-        let part = &bytes[cut.from..cut.to];
-        let (stored, left) = split_stored(self.bytes.alloc(), part, host, spans, end)?;
+        let stretches = self.stretches.as_slice();
+        let cut = cut_of(stretches, spans, end);
+        let part = &stretches[cut.from..cut.to];
+        let (stored, left) = split_stored(self.stretches.alloc(), part, host, spans, end)?;
         let before = kept.len();
         lengthen(kept, end)?;
-        match put_between(&mut self.bytes, cut, left) {
+        match put_between(&mut self.stretches, cut, left) {
             Ok(()) => {
                 kept.truncate(end);
                 put_each(kept, stored.as_slice(), 0);
@@ -165,9 +191,29 @@ impl UnsavedBytes {
 impl Plain for UnsavedBytes {
     fn copy(&self) -> Result<UnsavedBytes, NoMemory> {
         Ok(UnsavedBytes {
-            bytes: self.bytes.to_items()?,
+            stretches: self.stretches.copy()?,
         })
     }
+}
+
+// Adds the bytes that a host writes from a position on, each with its position.
+fn push_bytes(
+    list: &mut Items<Unsaved>,
+    host: HostId,
+    from: u32,
+    bytes: &[u8],
+) -> Result<(), NoMemory>
+    requires { from + length bytes.now ≤ FILE_BYTES_MAX }
+    ensures { OnOk result (list.new ≡ list.old ++ written host from bytes.now) }
+{
+    for (i, value) in bytes.iter().enumerate() {
+        list.push(Unsaved {
+            at: from + i as u32,
+            value: *value,
+            writer: host,
+        })?;
+    }
+    Ok(())
 }
 
 /// A part of a list: the places from `from` on and before `to`.
@@ -177,39 +223,38 @@ struct Cut {
     to: usize,
 }
 
-// How many of the unsaved bytes stand below a position.
-fn count_below(unsaved: &[Unsaved], end: usize) -> usize
-    requires { positions_rise unsaved.now ≡ true }
-    ensures within { result ≤ length unsaved.now }
-    ensures below { take result unsaved.now ≡ filter (λ byte. nat_lt byte.at end) unsaved.now }
-    ensures above { drop result unsaved.now ≡ filter (λ byte. nat_le end byte.at) unsaved.now }
+// How many of the stretches begin below a position. All but the last of these end there or before.
+fn count_below(stretches: &[Stretch], end: usize) -> usize
+    requires { are_stretches stretches.now ≡ true }
+    ensures within { result ≤ length stretches.now }
+    ensures below { list_all (λ byte. nat_lt byte.at end) (all_bytes (take (result - 1) stretches.now)) ≡ true }
+    ensures above { list_all (λ byte. nat_le end byte.at) (all_bytes (drop result stretches.now)) ≡ true }
 {
-    unsaved.partition_point(|byte| (byte.at as usize) < end)
+    stretches.partition_point(|stretch| (stretch.from as usize) < end)
 }
 
-// Where the unsaved bytes of a span stand.
-fn cut_at(unsaved: &[Unsaved], from: usize, to: usize) -> Cut
-    requires rising { positions_rise unsaved.now ≡ true }
-    requires ordered { from ≤ to }
-    ensures { IsCut unsaved.now from to result.from result.to }
+// A part of the stretches in which all bytes of a span stand.
+fn cut_at(stretches: &[Stretch], from: usize, to: usize) -> Cut
+    requires { are_stretches stretches.now ≡ true }
+    ensures { IsCut stretches.now from to result.from result.to }
 {
-    let first = count_below(unsaved, from);
-    let rest = &unsaved[first..];
+    let first = count_below(stretches, from).saturating_sub(1);
     Cut {
         from: first,
-        to: first + count_below(rest, to),
+        to: count_below(stretches, to).max(first),
     }
 }
 
-// Where the unsaved bytes stand that lie between the first position and the last one of spans, below `end`.
-fn cut_of(unsaved: &[Unsaved], spans: &[Span], end: usize) -> Cut
-    requires { positions_rise unsaved.now ≡ true }
-    ensures { IsCut unsaved.now (first_of spans.now end)
+// A part of the stretches in which all bytes stand that lie between the first position and the last one of spans, below
+// `end`.
+fn cut_of(stretches: &[Stretch], spans: &[Span], end: usize) -> Cut
+    requires { are_stretches stretches.now ≡ true }
+    ensures { IsCut stretches.now (first_of spans.now end)
         (max (min (end_of spans.now) end) (first_of spans.now end)) result.from result.to }
 {
     let from = first_of(spans, end);
     let to = end_of(spans).min(end).max(from);
-    cut_at(unsaved, from, to)
+    cut_at(stretches, from, to)
 }
 
 // The first position that spans begin at, and `end` where none begins before it.
@@ -228,120 +273,203 @@ fn end_of(spans: &[Span]) -> usize
     spans.iter().fold(0, |to, span| to.max(span.to as usize))
 }
 
-// The unsaved bytes of a span.
-fn part_of(unsaved: &[Unsaved], from: usize, to: usize) -> &[Unsaved]
-    requires { positions_rise unsaved.now ≡ true }
-    ensures { result.now ≡ filter (λ byte. nat_lt byte.at to) (filter (λ byte. nat_le from byte.at) unsaved.now) }
-{
-    let rest = &unsaved[count_below(unsaved, from)..];
-    &rest[..count_below(rest, to)]
-}
-
-// Puts these bytes in the place of a part of the list.
+// Puts these stretches in the place of a part of the list.
 fn put_between(
-    unsaved: &mut Items<Unsaved>,
+    stretches: &mut Items<Stretch>,
     cut: Cut,
-    written: Vec<Unsaved>,
+    written: Vec<Stretch>,
 ) -> Result<(), NoMemory>
     requires ordered { cut.from ≤ cut.to }
-    requires within { cut.to ≤ length unsaved.old }
-    ensures ok { OnOk result (unsaved.new ≡ splice unsaved.old cut.from cut.to written.items) }
-    ensures err { OnErr result (unsaved.new ≡ unsaved.old) }
+    requires within { cut.to ≤ length stretches.old }
+    ensures ok { OnOk result (stretches.new ≡ splice stretches.old cut.from cut.to written.items) }
+    ensures err { OnErr result (stretches.new ≡ stretches.old) }
 {
-    let alloc = unsaved.alloc();
-    let mut bytes = mem::replace(unsaved, Items::new(alloc)).into_vec();
-    let put = bytes.splice(cut.from..cut.to, written);
-    *unsaved = Items::from_vec(bytes);
+    let alloc = stretches.alloc();
+    let mut list = mem::replace(stretches, Items::new(alloc)).into_vec();
+    let put = list.splice(cut.from..cut.to, written);
+    *stretches = Items::from_vec(list);
     put?;
     Ok(())
 }
 
-// The bytes that a host writes, as unsaved ones.
-fn written(alloc: Global, host: HostId, from: u32, bytes: &[u8]) -> Result<Vec<Unsaved>, NoMemory>
-    requires { from + length bytes.now ≤ FILE_BYTES_MAX }
-    ensures { IfOk result (λ list. list.items ≡ written host from bytes.now) }
+// What a write leaves of stretches: those of their bytes that stand below it, the written ones, and those above it.
+fn written_over(
+    alloc: Global,
+    part: &[Stretch],
+    host: HostId,
+    from: u32,
+    bytes: &[u8],
+) -> Result<Vec<Stretch>, NoMemory>
+    requires within { from + length bytes.now ≤ FILE_BYTES_MAX }
+    requires each { list_all is_stretch part.now ≡ true }
+    ensures value { IfOk result (λ list. all_bytes list.items ≡ unsaved_after (all_bytes part.now) host from bytes.now) }
+    ensures each { IfOk result (λ list. list_all is_stretch list.items ≡ true) }
 {
-    let mut list = Vec::with_capacity(alloc, bytes.len())?;
-    for (i, value) in bytes.iter().enumerate() {
-        list.push(Unsaved {
-            at: from + i as u32,
-            value: *value,
-            writer: host,
-        })?;
-    }
+    let mut list = Vec::with_capacity(alloc, 3)?;
+    push_below(&mut list, part, from as usize)?;
+    push_written(&mut list, host, from, bytes)?;
+    push_above(&mut list, part, from as usize + bytes.len())?;
     Ok(list)
 }
 
-// Lets the unsaved bytes of a host go.
-fn drop_own(unsaved: &mut Items<Unsaved>, host: HostId)
-    ensures { unsaved.new ≡ filter (λ byte. not (byte.writer.0 == host.0)) unsaved.old }
+// Lets the stretches of a host go.
+fn drop_own(stretches: &mut Items<Stretch>, host: HostId)
+    ensures { stretches.new ≡ filter (λ stretch. not (stretch.writer.0 == host.0)) stretches.old }
 {
-    unsaved.retain(|byte| byte.writer != host);
+    stretches.retain(|stretch| stretch.writer != host);
 }
 
-// The unsaved bytes that become kept, and those that don't. A span is looked for from the one on that had the byte
-// before.
+// The stretches that become kept, and those that don't.
 fn split_stored(
     alloc: Global,
-    unsaved: &[Unsaved],
+    stretches: &[Stretch],
     host: HostId,
     spans: &[Span],
     end: usize,
-) -> Result<(Vec<Unsaved>, Vec<Unsaved>), NoMemory>
-    ensures stored { IfOk result (λ both. both.0.items ≡ filter (is_stored host spans.now end) unsaved.now) }
-    ensures left { IfOk result
-        (λ both. both.1.items ≡ filter (λ byte. not (is_stored host spans.now end byte)) unsaved.now) }
+) -> Result<(Vec<Stretch>, Vec<Stretch>), NoMemory>
+    requires { list_all is_stretch stretches.now ≡ true }
+    ensures stored { IfOk result
+        (λ both. all_bytes both.0.items ≡ filter (is_stored host spans.now end) (all_bytes stretches.now)) }
+    ensures left { IfOk result (λ both. all_bytes both.1.items
+        ≡ filter (λ byte. not (is_stored host spans.now end byte)) (all_bytes stretches.now)) }
+    ensures each { IfOk result (λ both. list_all is_stretch both.1.items ≡ true) }
 {
     let mut stored = Vec::new(alloc);
     let mut left = Vec::new(alloc);
-    let mut near = 0;
-    for byte in unsaved {
-        match span_of(host, spans, end, near, byte) {
-            Some(place) => {
-                near = place;
-                stored.push(*byte)?;
-            }
-            None => left.push(*byte)?,
-        }
+    for stretch in stretches {
+        split_one(&mut stored, &mut left, stretch, host, spans, end)?;
     }
     Ok((stored, left))
 }
 
-// The span in which a host stores an unsaved byte, looked for from the place `near` on.
-fn span_of(host: HostId, spans: &[Span], end: usize, near: usize, byte: &Unsaved) -> Option<usize>
-    ensures { is_some result ≡ is_stored host spans.now end byte.now }
+// Adds the parts of a stretch that become kept, and those that don't.
+fn split_one(
+    stored: &mut Vec<Stretch>,
+    left: &mut Vec<Stretch>,
+    stretch: &Stretch,
+    host: HostId,
+    spans: &[Span],
+    end: usize,
+) -> Result<(), NoMemory>
+    requires { is_stretch stretch.now ≡ true }
+    ensures stored { OnOk result (all_bytes stored.new.items
+        ≡ all_bytes stored.old.items ++ filter (is_stored host spans.now end) (bytes_of stretch.now)) }
+    ensures left { OnOk result (all_bytes left.new.items
+        ≡ all_bytes left.old.items ++ filter (λ byte. not (is_stored host spans.now end byte)) (bytes_of stretch.now)) }
+    ensures each { OnOk result (list_all is_stretch left.old.items ≡ true → list_all is_stretch left.new.items ≡ true) }
 {
-    if byte.writer == host && (byte.at as usize) < end {
-        span_at(spans, near, byte.at)
+    let count = stretch.bytes.len();
+    let limit = limit_of(stretch, host, end);
+    let mut done = 0;
+    while done < count {
+        let part = part_at(spans, limit, stretch.from as usize + done);
+        let next = (part.to - stretch.from as usize).min(count);
+        push_either(stored, left, stretch, done, next, part.stored)?;
+        done = next;
+    }
+    Ok(())
+}
+
+// Adds a part of a stretch to those that become kept, or to those that don't.
+fn push_either(
+    stored: &mut Vec<Stretch>,
+    left: &mut Vec<Stretch>,
+    stretch: &Stretch,
+    from: usize,
+    to: usize,
+    is_stored: bool,
+) -> Result<(), NoMemory>
+    requires ordered { from ≤ to }
+    requires within { to ≤ length stretch.now.bytes }
+    requires stretch { is_stretch stretch.now ≡ true }
+    ensures stored { OnOk result (all_bytes stored.new.items ≡ if is_stored then all_bytes stored.old.items
+        ++ written stretch.now.writer (stretch.now.from + from) (take (to - from) (drop from stretch.now.bytes))
+        else all_bytes stored.old.items) }
+    ensures left { OnOk result (all_bytes left.new.items ≡ if not is_stored then all_bytes left.old.items
+        ++ written stretch.now.writer (stretch.now.from + from) (take (to - from) (drop from stretch.now.bytes))
+        else all_bytes left.old.items) }
+    ensures each { OnOk result (list_all is_stretch left.old.items ≡ true → list_all is_stretch left.new.items ≡ true) }
+{
+    if is_stored {
+        push_part(stored, stretch, from, to)
     } else {
-        None
+        push_part(left, stretch, from, to)
     }
 }
 
-// The place of a span that has a position, looked for from the place `near` on and then from the first on.
-fn span_at(spans: &[Span], near: usize, at: u32) -> Option<usize>
-    ensures { is_some result ≡ in_spans spans.now at }
+/// Positions before `to`, the bytes at which all become kept, or none.
+#[derive(Clone, Copy)]
+struct Part {
+    stored: bool,
+    to: usize,
+}
+
+// Below which position the bytes of a stretch become kept, as a host stores.
+fn limit_of(stretch: &Stretch, host: HostId, end: usize) -> usize
+    ensures { result ≡ if stretch.now.writer.0 == host.0 then end else 0 }
 {
-    let (before, after) = spans.split_at(near.min(spans.len()));
-    match first_with(after, at) {
-        Some(place) => Some(before.len() + place),
-        None => first_with(before, at),
+    if stretch.writer == host { end } else { 0 }
+}
+
+// The part from a position on, as spans are stored below `end`.
+#[tactic(auto, using(crate::proofs::Stored::past_stored))]
+fn part_at(spans: &[Span], end: usize, at: usize) -> Part
+    requires { at < FILE_BYTES_MAX }
+    ensures more { at < result.to }
+    ensures alike { (place : ℕ) → at ≤ place → place < result.to
+        → (nat_lt place end && in_spans spans.now place) ≡ result.stored }
+{
+    if at < end {
+        part_below(spans, end, at)
+    } else {
+        Part {
+            stored: false,
+            to: FILE_BYTES_MAX as usize,
+        }
     }
 }
 
-// The place of the first span that has a position, where one has.
-fn first_with(spans: &[Span], at: u32) -> Option<usize>
-    ensures value { is_some result ≡ in_spans spans.now at }
-    ensures within { IfSome result (λ place. place < length spans.now) }
+#[tactic(auto, using(
+    crate::proofs::Stored::span_stored,
+    crate::proofs::Stored::span_more,
+    crate::proofs::Stored::between_stored,
+    crate::proofs::Stored::next_more
+))]
+fn part_below(spans: &[Span], end: usize, at: usize) -> Part
+    requires within { at < FILE_BYTES_MAX }
+    requires below { at < end }
+    ensures more { at < result.to }
+    ensures alike { (place : ℕ) → at ≤ place → place < result.to
+        → (nat_lt place end && in_spans spans.now place) ≡ result.stored }
 {
-    position_with(spans, at)
+    match span_with(spans, at) {
+        Some(span) => Part {
+            stored: true,
+            to: end.min(span.to as usize),
+        },
+        None => Part {
+            stored: false,
+            to: next_of(spans, at),
+        },
+    }
 }
 
-fn position_with(spans: &[Span], at: u32) -> Option<usize>
-    ensures value { result ≡ position (λ span. has_byte span at) spans.now }
-    ensures within { IfSome result (λ place. place < length spans.now) }
+// The first span that has a position, where one has.
+fn span_with(spans: &[Span], at: usize) -> Option<Span>
+    ensures { result ≡ find (λ span. has_byte span at) spans.now }
 {
     spans
         .iter()
-        .position(|span| span.from <= at && at < span.to)
+        .copied()
+        .find(|span| span.from as usize <= at && at < span.to as usize)
+}
+
+// The first position behind `at` that spans begin at, and the end of the longest file where none begins there.
+fn next_of(spans: &[Span], at: usize) -> usize
+    ensures { result ≡ next_of spans.now at }
+{
+    spans.iter().fold(FILE_BYTES_MAX as usize, |next, span| {
+        let from = span.from as usize;
+        if at < from { next.min(from) } else { next }
+    })
 }
