@@ -1,5 +1,5 @@
 -- A part of the stretches in which all bytes of a span stand, and what is put in its place.
-use Rattle.std.proofs.Common.{◌≡◌, ℕ, zero, suc, ◌+◌, ◌-◌, ◌<◌, ◌≤◌, ◌==◌, nat_le, nat_lt, Bool, true, false, ◌&&◌, not, cond, List, [], ◌∷◌, ◌++◌, length, filter, map, take, drop, get_or, max, None, append_assoc, refl, sym, ap, ◌∙◌, subst, arith, inl, inr}
+use Rattle.std.proofs.Common.{◌≡◌, ℕ, zero, suc, ◌+◌, ◌-◌, ◌<◌, ◌≤◌, ◌==◌, nat_le, nat_lt, Bool, true, false, ◌&&◌, not, cond, List, [], ◌∷◌, ◌++◌, length, filter, map, take, drop, get_or, max, Option, None, append_assoc, refl, sym, ap, ◌∙◌, subst, arith, inl, inr}
 use Rattle.std.specs.List.{list_all, splice, AllWithin}
 use Rattle.std.specs.List.Sorted.{IsPartitionedBy}
 use Rattle.std.specs.Option.{option_map_or, option_or}
@@ -25,7 +25,7 @@ use Rattle.tree_objects.specs.Positions.{positions_rise}
 use Rattle.tree_objects.specs.Stretches.{bytes_of, all_bytes, is_stretch, are_stretches}
 use Rattle.tree_objects.proofs.Observed.{and_left, and_right}
 use Rattle.tree_objects.proofs.Rising.{and_both, all_append, all_implied, rise_written, written_from}
-use Rattle.tree_objects.proofs.Pieces.{some_of}
+use Rattle.tree_objects.proofs.Pieces.{some_of, drop_more}
 
 -- all of the first list, and all of the second
 pub all_front : {X : Type 0} (p : X → Bool) (xs ys : List X) → list_all p (xs ++ ys) ≡ true → list_all p xs ≡ true
@@ -151,12 +151,6 @@ halves [] zero = refl
 halves [] (suc i) = refl
 halves (x ∷ xs) zero = refl
 halves (x ∷ xs) (suc i) = ap (λ ys. x ∷ ys) (halves xs i)
-
--- some behind others
-drop_more : {X : Type 0} (xs : List X) (i k : ℕ) → drop (i + k) xs ≡ drop k (drop i xs)
-drop_more xs zero k = let z : zero + k ≡ k = omega arith in rw z refl
-drop_more [] (suc i) k = drop-nil (suc i + k) ∙ sym (drop-nil k)
-drop_more (x ∷ xs) (suc i) k = let z : suc i + k ≡ suc (i + k) = omega arith in rw z (drop_more xs i k)
 
 -- a list is what stands before a part, the part, and what stands behind it
 around : {X : Type 0} (xs : List X) (i k : ℕ) → i ≤ k → xs ≡ take i xs ++ (take (k - i) (drop i xs) ++ drop k xs)

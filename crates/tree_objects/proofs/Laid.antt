@@ -11,7 +11,7 @@ use Rattle.tree_objects.specs.Files.{bytes_over, bytes_with}
 use Rattle.tree_objects.specs.Positions.{written}
 use Rattle.tree_objects.specs.Stretches.{bytes_of, all_bytes, laid}
 use Rattle.tree_objects.proofs.Overlays.{drop_past, over_put}
-use Rattle.tree_objects.proofs.Pieces.{take_nil, take_past}
+use Rattle.tree_objects.proofs.Pieces.{take_nil, take_past, drop_more}
 
 -- the front of a list and the rest of it
 halves : (xs : List ℕ) (i : ℕ) → take i xs ++ drop i xs ≡ xs
@@ -81,11 +81,6 @@ laid_next kept ss from n i s h e =
     ∙ ap (λ x. bytes_over kept (bytes_of x ++ all_bytes (drop (suc i) ss)) from n) e
     ∙ ap (λ xs. bytes_over kept (all_bytes xs) from n) (sym (drop-cons ss i s h))
 
-drop_twice : (xs : List ℕ) (i k : ℕ) → drop k (drop i xs) ≡ drop (i + k) xs
-drop_twice xs zero k = let z : zero + k ≡ k = omega arith in rw z refl
-drop_twice [] (suc i) k = drop-nil k ∙ sym (drop-nil (suc i + k))
-drop_twice (x ∷ xs) (suc i) k = let z : suc i + k ≡ suc (i + k) = omega arith in rw z (drop_twice xs i k)
-
 -- a part that is copied in is laid
 pub laid_in : (xs bytes : List ℕ) (t m at skipped count k j : ℕ) (ys : List ℕ) → skipped ≡ min m (length bytes) → at ≡ min t (length xs) → count ≡ min (length bytes - skipped) (length xs - at) → k ≡ count → j ≡ count
     → ys ≡ take j (drop skipped bytes) → take at xs ++ (ys ++ drop k (drop at xs)) ≡ laid xs t (drop m bytes)
@@ -97,5 +92,5 @@ laid_in xs bytes t m at skipped count k j ys s a c ek ej put =
     let n : j ≡ min (length xs - t) (length part) = omega (arith, s, a, c, ej, long) in
     let mid : ys ≡ take (length xs - t) part = put ∙ ap (take j) same ∙ ap (λ n. take n part) n ∙ take_past part (length xs - t) in
     let end : at + k ≡ min (t + length part) (length xs) = omega (arith, s, a, c, ek, long) in
-    let back : drop k (drop at xs) ≡ drop (t + length part) xs = drop_twice xs at k ∙ ap (λ n. drop n xs) end ∙ drop_past xs (t + length part) in
+    let back : drop k (drop at xs) ≡ drop (t + length part) xs = sym (drop_more xs at k) ∙ ap (λ n. drop n xs) end ∙ drop_past xs (t + length part) in
     ap (λ zs. zs ++ (ys ++ drop k (drop at xs))) front ∙ ap (λ zs. take t xs ++ (zs ++ drop k (drop at xs))) mid ∙ ap (λ zs. take t xs ++ (take (length xs - t) part ++ zs)) back

@@ -26,7 +26,10 @@ within_of stretch h =
     let within : nat_le (stretch.from + length stretch.bytes) FILE_BYTES_MAX ≡ true = and_right _ _ h in grind (arith, common_steps, within)
 
 pub made_of : (stretch : Stretch) → 0 < length stretch.bytes → stretch.from + length stretch.bytes ≤ FILE_BYTES_MAX → is_stretch stretch ≡ true
-made_of stretch some within = and_both _ _ (grind (arith, common_steps, some)) (grind (arith, common_steps, within))
+made_of stretch some within =
+    let one : nat_lt 0 (length stretch.bytes) ≡ true = grind (arith, common_steps, some) in
+    let two : nat_le (stretch.from + length stretch.bytes) FILE_BYTES_MAX ≡ true = grind (arith, common_steps, within) in
+    and_both _ _ one two
 
 -- its first byte
 pub first_of : (stretch : Stretch) → slice_get (bytes_of stretch) 0 ≡ option_map (λ value. record { at = stretch.from; value = value; writer = stretch.writer }) (slice_get stretch.bytes 0)
@@ -78,9 +81,15 @@ none_more list host from [] e = sym (append-nil (all_bytes list))
 none_more list host from (x ∷ xs) e = absurd (omega (arith, e))
 
 -- the first of no bytes
-pub take_nil : (n : ℕ) → take n [] ≡ ([] : List ℕ)
+pub take_nil : (n : ℕ) → ◌≡◌ {A = List ℕ} (take n []) []
 take_nil zero = refl
 take_nil (suc n) = refl
+
+-- some behind others
+pub drop_more : {X : Type 0} (xs : List X) (i k : ℕ) → drop (i + k) xs ≡ drop k (drop i xs)
+drop_more xs zero k = let z : zero + k ≡ k = omega arith in rw z refl
+drop_more [] (suc i) k = drop-nil (suc i + k) ∙ sym (drop-nil k)
+drop_more (x ∷ xs) (suc i) k = let z : suc i + k ≡ suc (i + k) = omega arith in rw z (drop_more xs i k)
 
 -- more than there are
 pub take_past : (xs : List ℕ) (n : ℕ) → take (min n (length xs)) xs ≡ take n xs
@@ -98,7 +107,7 @@ take_whole (x ∷ xs) (suc n) h = ap (λ ys. x ∷ ys) (take_whole xs n (omega (
 pub rest_all : {X : Type 0} (xs : List X) (i : ℕ) → take (length xs - i) (drop i xs) ≡ drop i xs
 rest_all xs i = let long = length-drop i xs in take_whole (drop i xs) (length xs - i) (omega (arith, long))
 
-drop_all : (xs : List ℕ) (n : ℕ) → length xs ≤ n → drop n xs ≡ []
+pub drop_all : (xs : List ℕ) (n : ℕ) → length xs ≤ n → drop n xs ≡ []
 drop_all [] n h = drop-nil n
 drop_all (x ∷ xs) zero h = absurd (omega (arith, h))
 drop_all (x ∷ xs) (suc n) h = drop_all xs n (omega (arith, h))

@@ -17,6 +17,7 @@ use Rattle.tree_objects.specs.Stores.{is_stored}
 use Rattle.tree_objects.specs.Stretches.{bytes_of, all_bytes, is_stretch, are_stretches}
 use Rattle.tree_objects.proofs.Observed.{and_left, and_right}
 use Rattle.tree_objects.proofs.Rising.{and_both, all_implied, rise_filter}
+use Rattle.tree_objects.proofs.Pieces.{drop_more, drop_all}
 use Rattle.tree_objects.proofs.Cuts.{around_bytes, put_bytes, filter_all, filter_none}
 
 -- a test that is passed only between two positions is refused outside
@@ -144,18 +145,6 @@ written_split host from (x ∷ xs) (suc n) =
     let first : Unsaved = record { at = from; value = x; writer = host } in
     ap (λ ys. first ∷ ys) (written_split host (from + 1) xs n ∙ ap (λ k. written host (from + 1) (take n xs) ++ written host k (drop n xs)) z)
 
--- some behind others
-drop_twice : (xs : List ℕ) (i k : ℕ) → drop k (drop i xs) ≡ drop (i + k) xs
-drop_twice xs zero k = let z : zero + k ≡ k = omega arith in rw z refl
-drop_twice [] (suc i) k = nothing (suc i + k) k
-  where
-    nothing : (n k : ℕ) → drop k [] ≡ drop n ([] : List ℕ)
-    nothing zero zero = refl
-    nothing zero (suc k) = refl
-    nothing (suc n) zero = refl
-    nothing (suc n) (suc k) = refl
-drop_twice (x ∷ xs) (suc i) k = let z : suc i + k ≡ suc (i + k) = omega arith in rw z (drop_twice xs i k)
-
 -- one part of a stretch more is added to the list that it belongs to
 pub part_added : (test : Unsaved → Bool) (host : HostId) (from : ℕ) (bytes : List ℕ) (done next to : ℕ) (before after : List Unsaved) (all : List Unsaved) (b : Bool)
     → done ≤ next → next ≤ length bytes → from + next ≤ to
@@ -175,7 +164,7 @@ part_added test host from bytes done next to before after all b o l u f e was =
     ∙ filter-append test (written host (from + done) (take n rest)) (written host (from + done + n) (drop n rest))
     ∙ ap (λ ys. ys ++ filter test (written host (from + done + n) (drop n rest))) here
     ∙ ap (λ k. cond b (written host (from + done) (take n rest)) [] ++ filter test (written host k (drop n rest))) z
-    ∙ ap (λ ys. cond b (written host (from + done) (take n rest)) [] ++ filter test (written host (from + next) ys)) (drop_twice bytes done n ∙ ap (λ k. drop k bytes) y) in
+    ∙ ap (λ ys. cond b (written host (from + done) (take n rest)) [] ++ filter test (written host (from + next) ys)) (sym (drop_more bytes done n) ∙ ap (λ k. drop k bytes) y) in
     ap (λ ys. ys ++ filter test (written host (from + next) (drop next bytes))) e
     ∙ joined b before (written host (from + done) (take n rest)) (filter test (written host (from + next) (drop next bytes)))
     ∙ ap (λ ys. before ++ ys) (sym split)
@@ -194,13 +183,7 @@ part_added test host from bytes done next to before after all b o l u f e was =
 pub all_added : (test : Unsaved → Bool) (host : HostId) (from : ℕ) (bytes : List ℕ) (done : ℕ) (list all : List Unsaved) → length bytes ≤ done
     → list ++ filter test (written host (from + done) (drop done bytes)) ≡ all → list ≡ all
 all_added test host from bytes done list all h e =
-    sym (append-nil list) ∙ ap (λ ys. list ++ ys) (sym (ap (λ ys. filter test (written host (from + done) ys)) (gone bytes done h))) ∙ e
-  where
-    gone : (xs : List ℕ) (n : ℕ) → length xs ≤ n → drop n xs ≡ []
-    gone [] zero h = refl
-    gone [] (suc n) h = refl
-    gone (x ∷ xs) zero h = absurd (omega (arith, h))
-    gone (x ∷ xs) (suc n) h = gone xs n (omega (arith, h))
+    sym (append-nil list) ∙ ap (λ ys. list ++ ys) (sym (ap (λ ys. filter test (written host (from + done) ys)) (drop_all bytes done h))) ∙ e
 
 -- before its first byte all is
 pub none_added : (test : Unsaved → Bool) (stretch : Stretch) (list : List Unsaved) → list ++ filter test (written stretch.writer (stretch.from + 0) (drop 0 stretch.bytes)) ≡ list ++ filter test (bytes_of stretch)

@@ -123,7 +123,9 @@ fn push_front(list: &mut Vec<Stretch>, stretch: &Stretch, end: usize) -> Result<
         ≡ all_bytes list.old.items ++ filter (λ byte. nat_lt byte.at end) (bytes_of stretch.now)) }
     ensures each { OnOk result (list_all is_stretch list.old.items ≡ true → list_all is_stretch list.new.items ≡ true) }
 {
-    let count = end.saturating_sub(stretch.from as usize).min(stretch.bytes.len());
+    let count = end
+        .saturating_sub(stretch.from as usize)
+        .min(stretch.bytes.len());
     push_part(list, stretch, 0, count)
 }
 

@@ -429,12 +429,7 @@ fn part_at(spans: &[Span], end: usize, at: usize) -> Part
     }
 }
 
-#[tactic(auto, using(
-    crate::proofs::Stored::span_stored,
-    crate::proofs::Stored::span_more,
-    crate::proofs::Stored::between_stored,
-    crate::proofs::Stored::next_more
-))]
+#[tactic(auto, using(crate::proofs::Stored::span_stored, crate::proofs::Stored::span_more, crate::proofs::Stored::between_stored, crate::proofs::Stored::next_more))]
 fn part_below(spans: &[Span], end: usize, at: usize) -> Part
     requires within { at < FILE_BYTES_MAX }
     requires below { at < end }

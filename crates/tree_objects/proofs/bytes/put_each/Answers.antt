@@ -10,5 +10,5 @@ loop-index-preserved c kept count is =
     let e : suc i ≡ c.loop-index.index = omega (arith, c.loop-index-test.true) in
     c.put_stretch.ensures
     ∙ ap (λ bytes. laid bytes (s.from - from) (drop (from - s.from) s.bytes))
-    (c.loop-index.invariant kept count is ∙ ap (λ k. bytes_over kept (all_bytes (drop k ss)) from count) (sym e))
+    (c.as_mut_slice.ensures.value ∙ c.loop-index.invariant kept count is ∙ ap (λ k. bytes_over kept (all_bytes (drop k ss)) from count) (sym e))
     ∙ laid_next kept ss from count i s (omega (arith, c.loop-index-test.true, c.loop-index.auto.index)) c.index-stretches-index.is

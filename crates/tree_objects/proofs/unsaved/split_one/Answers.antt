@@ -13,8 +13,8 @@ loop-done-init c = record {
   within = omega arith;
 }
 
-pub part_at-requires : goal.part_at-requires
-part_at-requires c = let within = within_of c.args.stretch.now c.requires in omega (arith, within, c.loop-done-test.true, c.len-count.ensures)
+pub part_at-part-requires : goal.part_at-part-requires
+part_at-part-requires c = let within = within_of c.args.stretch.now c.requires in omega (arith, within, c.loop-done-test.true, c.len-count.ensures)
 
 pub loop-done-preserved : goal.loop-done-preserved
 loop-done-preserved c =
@@ -44,3 +44,6 @@ pub returns-clause-left : goal.returns-clause-left
 returns-clause-left c =
     let stretch = c.args.stretch.now in
     all_added (λ byte. not (is_stored c.args.host c.args.spans.now c.args.end byte)) stretch.writer stretch.from stretch.bytes c.loop-done.done _ _ (omega (arith, c.loop-done-test.false, c.len-count.ensures)) c.loop-done.invariant.left
+
+pub returns-clause-each : goal.returns-clause-each
+returns-clause-each c = c.loop-done.invariant.each
