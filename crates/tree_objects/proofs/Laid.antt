@@ -1,5 +1,5 @@
 -- Bytes of a stretch that are put over others.
-use Rattle.std.proofs.Common.{◌≡◌, ℕ, zero, suc, ◌+◌, ◌-◌, ◌<◌, ◌≤◌, ◌==◌, nat_le, true, false, List, [], ◌∷◌, ◌++◌, length, take, drop, get_or, set, min, refl, sym, ap, ◌∙◌, drop-cons, arith, inl, inr}
+use Rattle.std.proofs.Common.{◌≡◌, ℕ, zero, suc, ◌+◌, ◌-◌, ◌<◌, ◌≤◌, ◌==◌, nat_le, true, false, List, [], ◌∷◌, ◌++◌, length, take, drop, get_or, set, min, length-append, length-take, refl, sym, ap, ◌∙◌, drop-cons, arith, inl, inr}
 use Rattle.std.proofs.Math.Seq.{drop-nil}
 use Rattle.std.proofs.lemmas.List.{length-drop}
 use Rattle.std.proofs.lemmas.Grind.{common_steps}
@@ -37,6 +37,14 @@ laid_more x xs t part =
     let e : suc (length xs) - suc t ≡ length xs - t = omega arith in
     let f : suc t + length part ≡ suc (t + length part) = omega arith in
     rw (e, f) refl
+
+-- there are as many bytes as before
+pub laid_length : (xs : List ℕ) (t : ℕ) (part : List ℕ) → length (laid xs t part) ≡ length xs
+laid_length xs t part = rw (length-append, length-take, length-append, length-take, length-drop) (omega arith)
+
+pub take_front : (xs ys : List ℕ) → take (length xs) (xs ++ ys) ≡ xs
+take_front [] ys = refl
+take_front (x ∷ xs) ys = ap (λ zs. x ∷ zs) (take_front xs ys)
 
 -- one byte more in front
 laid_one : (xs : List ℕ) (t b : ℕ) (part : List ℕ) → laid xs t (b ∷ part) ≡ set (laid xs (suc t) part) t b

@@ -99,12 +99,7 @@ impl UnsavedBytes {
     pub fn to_items(&self) -> Result<Items<Unsaved>, NoMemory>
         ensures { IfOk result (λ bytes. bytes ≡ self.now) }
     {
-        let mut bytes = Items::new(self.stretches.alloc());
-        for stretch in self.stretches.as_slice() {
-            let values = stretch.bytes.as_slice();
-            push_bytes(&mut bytes, stretch.writer, stretch.from, values)?;
-        }
-        Ok(bytes)
+        bytes_in(self.stretches.alloc(), self.stretches())
     }
 
     /// The stretches in which the bytes stand.
@@ -194,6 +189,19 @@ impl Plain for UnsavedBytes {
             stretches: self.stretches.copy()?,
         })
     }
+}
+
+// The bytes of stretches, each with its position.
+fn bytes_in(alloc: Global, stretches: &[Stretch]) -> Result<Items<Unsaved>, NoMemory>
+    requires { list_all is_stretch stretches.now ≡ true }
+    ensures { IfOk result (λ bytes. bytes ≡ all_bytes stretches.now) }
+{
+    let mut bytes = Items::new(alloc);
+    for stretch in stretches {
+        let values = stretch.bytes.as_slice();
+        push_bytes(&mut bytes, stretch.writer, stretch.from, values)?;
+    }
+    Ok(bytes)
 }
 
 // Adds the bytes that a host writes from a position on, each with its position.

@@ -1,12 +1,13 @@
-use Rattle.std.proofs.Common.{◌≡◌, ◌-◌, Bool, min, max, not, filter, take, drop, subst, ap, ◌∙◌}
+use Rattle.std.proofs.Common.{◌≡◌, true, sym, ◌-◌, Bool, min, max, not, filter, take, drop, subst, ap, ◌∙◌}
+use Rattle.std.specs.List.{list_all}
 use Rattle.tree_objects.specs.declared.content.Unsaved.{Unsaved}
 use Rattle.tree_objects.specs.Cuts.{IsCut, first_of, end_of}
 use Rattle.tree_objects.specs.Files.{bytes_over}
 use Rattle.tree_objects.specs.Stores.{is_stored}
-use Rattle.tree_objects.specs.Stretches.{all_bytes}
+use Rattle.tree_objects.specs.Stretches.{all_bytes, is_stretch}
 use Rattle.tree_objects.proofs.Observed.{and_left}
 use Rattle.tree_objects.proofs.Overlays.{lengthened}
-use Rattle.tree_objects.proofs.Cuts.{each_put}
+use Rattle.tree_objects.proofs.Cuts.{each_put, each_taken, each_dropped}
 use Rattle.tree_objects.proofs.Stored.{part_stored, part_left, left_stands}
 use Rattle.tree_objects.proofs.unsaved.UnsavedBytes.store.Goals as goal
 
@@ -42,3 +43,9 @@ returns-in-Ok-clause-left c =
     let left = c.in_ok-stored.ensures.left ∙ ap (λ xs. filter others (all_bytes (take (k - i) (drop i xs)))) c.as_slice-stretches.ensures in
     let after = part_left host spans end ss c.in_ok-stored.left.items c.put_between.new.stretches i k cut left c.in-Ok.ensures.ok in
     after ∙ ap (filter others) c.self.view_is
+
+pub split_stored-requires : goal.split_stored-requires
+split_stored-requires c =
+    let ss = c.as_slice-stretches.result.now in let i = c.cut_of-cut.result.from in let k = c.cut_of-cut.result.to in
+    let each : list_all is_stretch ss ≡ true = subst (λ xs. list_all is_stretch xs ≡ true) (sym c.as_slice-stretches.ensures) (and_left _ _ c.self.invariant) in
+    each_taken is_stretch (drop i ss) (k - i) (each_dropped is_stretch ss i each)

@@ -1,9 +1,10 @@
-use Rattle.std.proofs.Common.{◌≡◌, ◌+◌, ◌-◌, take, drop, length, subst, ap, ◌∙◌}
+use Rattle.std.proofs.Common.{◌≡◌, true, sym, ◌+◌, ◌-◌, take, drop, length, subst, ap, ◌∙◌}
+use Rattle.std.specs.List.{list_all}
 use Rattle.tree_objects.specs.Changes.{unsaved_after}
 use Rattle.tree_objects.specs.Cuts.{IsCut}
-use Rattle.tree_objects.specs.Stretches.{all_bytes}
+use Rattle.tree_objects.specs.Stretches.{all_bytes, is_stretch}
 use Rattle.tree_objects.proofs.Observed.{and_left}
-use Rattle.tree_objects.proofs.Cuts.{cut_written, each_put, write_stands}
+use Rattle.tree_objects.proofs.Cuts.{cut_written, each_put, each_taken, each_dropped, write_stands}
 use Rattle.tree_objects.proofs.unsaved.UnsavedBytes.write.Goals as goal
 
 pub invariant_of-self-2 : goal.invariant_of-self-2
@@ -24,3 +25,9 @@ returns-clause-ok c =
     let made = c.in_ok-written.ensures.value ∙ ap (λ xs. unsaved_after (all_bytes (take (k - i) (drop i xs))) host from bytes) c.as_slice-stretches.ensures in
     cut_written ss c.in_ok-written.written.items c.put_between.new.stretches host from bytes i k cut made c.in_ok-put_between.ensures.ok
     ∙ ap (λ xs. unsaved_after xs host from bytes) c.self.view_is
+
+pub written_over-requires-clause-each : goal.written_over-requires-clause-each
+written_over-requires-clause-each c =
+    let ss = c.as_slice-stretches.result.now in let i = c.cut_at-cut.result.from in let k = c.cut_at-cut.result.to in
+    let each : list_all is_stretch ss ≡ true = subst (λ xs. list_all is_stretch xs ≡ true) (sym c.as_slice-stretches.ensures) (and_left _ _ c.self.invariant) in
+    each_taken is_stretch (drop i ss) (k - i) (each_dropped is_stretch ss i each)
