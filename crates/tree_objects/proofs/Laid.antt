@@ -1,8 +1,7 @@
 -- Bytes of a stretch that are put over others.
-use Rattle.std.proofs.Common.{◌≡◌, ℕ, zero, suc, ◌+◌, ◌-◌, ◌<◌, ◌≤◌, ◌==◌, nat_le, true, false, List, [], ◌∷◌, ◌++◌, length, take, drop, get_or, set, min, length-append, length-take, refl, sym, ap, ◌∙◌, drop-cons, arith, inl, inr}
+use Rattle.std.proofs.Common.{◌≡◌, ℕ, zero, suc, ◌+◌, ◌-◌, ◌<◌, List, [], ◌∷◌, ◌++◌, length, take, drop, get_or, set, min, length-append, length-take, refl, sym, ap, ◌∙◌, drop-cons, arith, inl, inr}
 use Rattle.std.proofs.Math.Seq.{drop-nil}
 use Rattle.std.proofs.lemmas.List.{length-drop}
-use Rattle.std.proofs.lemmas.Grind.{common_steps}
 use Rattle.std.proofs.lemmas.Bool.Decides.{leb_tells}
 use Rattle.base_types.specs.declared.ids.HostId.{HostId}
 use Rattle.tree_objects.specs.declared.content.Unsaved.{Unsaved}

@@ -1,4 +1,4 @@
-use Rattle.std.proofs.Common.{◌≡◌, ◌-◌, length, min, drop, ap, ◌∙◌, arith}
+use Rattle.std.proofs.Common.{◌-◌, length, min, drop, ap, ◌∙◌, arith}
 use Rattle.tree_objects.specs.Stretches.{laid}
 use Rattle.tree_objects.proofs.Laid.{laid_in}
 use Rattle.tree_objects.proofs.bytes.put_stretch.Goals as goal

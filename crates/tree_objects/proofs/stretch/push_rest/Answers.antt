@@ -1,4 +1,4 @@
-use Rattle.std.proofs.Common.{◌≡◌, ◌-◌, ◌+◌, ◌++◌, min, take, drop, sym, subst, ◌∙◌}
+use Rattle.std.proofs.Common.{◌≡◌, ◌-◌, ◌+◌, ◌++◌, min, take, drop, subst, ◌∙◌}
 use Rattle.std.specs.Prelude.{OnOk}
 use Rattle.tree_objects.specs.Positions.{written}
 use Rattle.tree_objects.specs.Stretches.{all_bytes}

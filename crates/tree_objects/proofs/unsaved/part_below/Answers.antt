@@ -1,4 +1,4 @@
-use Rattle.std.proofs.Common.{◌≡◌, ◌<◌, min, sym, subst}
+use Rattle.std.proofs.Common.{◌<◌, sym, subst}
 use Rattle.tree_objects.proofs.Stored.{span_stored, span_more, between_stored}
 use Rattle.tree_objects.proofs.unsaved.part_below.Goals as goal
 

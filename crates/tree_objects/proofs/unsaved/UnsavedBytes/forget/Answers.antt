@@ -1,4 +1,4 @@
-use Rattle.std.proofs.Common.{◌≡◌, ◌==◌, not, filter, ap, ◌∙◌}
+use Rattle.std.proofs.Common.{◌==◌, not, filter, ap, ◌∙◌}
 use Rattle.tree_objects.specs.Stretches.{all_bytes}
 use Rattle.tree_objects.proofs.Owned.{own_gone, forget_stands}
 use Rattle.tree_objects.proofs.unsaved.UnsavedBytes.forget.Goals as goal

@@ -1,5 +1,4 @@
 use Rattle.std.proofs.Common.{◌≡◌, ◌-◌, take, drop, IfOk, subst, ap, ◌∙◌}
-use Rattle.tree_objects.specs.Cuts.{IsCut}
 use Rattle.tree_objects.specs.Files.{bytes_over}
 use Rattle.tree_objects.specs.Stretches.{all_bytes}
 use Rattle.tree_objects.proofs.Cuts.{part_shows}
