@@ -24,7 +24,7 @@ use Rattle.tree_objects.specs.Files.{unsaved_at, byte_over, bytes_over}
 use Rattle.tree_objects.specs.Positions.{positions_rise}
 use Rattle.tree_objects.specs.Stretches.{bytes_of, all_bytes, is_stretch, are_stretches}
 use Rattle.tree_objects.proofs.Observed.{and_left, and_right}
-use Rattle.tree_objects.proofs.Rising.{and_both, all_append, all_implied, rise_written, written_from}
+use Rattle.tree_objects.proofs.Rising.{and_both, all_append, all_implied, rise_written, written_from, written_below}
 use Rattle.tree_objects.proofs.Pieces.{some_of, drop_more}
 
 -- all of the first list, and all of the second
@@ -39,11 +39,6 @@ all_behind p (x ∷ xs) ys h = all_behind p xs ys (and_right _ _ h)
 rise_behind : (xs ys : List Unsaved) → positions_rise (xs ++ ys) ≡ true → positions_rise ys ≡ true
 rise_behind [] ys h = h
 rise_behind (x ∷ xs) ys h = rise_behind xs ys (and_right _ _ h)
-
--- the bytes before another stand below it
-rise_before : (xs ys : List Unsaved) (y : Unsaved) → positions_rise (xs ++ y ∷ ys) ≡ true → list_all (λ byte. nat_lt byte.at y.at) xs ≡ true
-rise_before [] ys y h = refl
-rise_before (x ∷ xs) ys y h = and_both _ _ (and_left _ _ (all_behind (λ other. nat_lt x.at other.at) xs (y ∷ ys) (and_left _ _ h))) (rise_before xs ys y (and_right _ _ h))
 
 -- a stretch begins with its first byte
 first_lt : (p : ℕ → Bool) (stretch : Stretch) (more : List Unsaved) → is_stretch stretch ≡ true → list_all (λ byte. p byte.at) (bytes_of stretch ++ more) ≡ true → p stretch.from ≡ true
@@ -78,44 +73,48 @@ begin_in_turn (s ∷ ss) zero (suc j) d k h o l =
 begin_in_turn (s ∷ ss) (suc i) zero d k h o l = absurd (omega (arith, o))
 begin_in_turn (s ∷ ss) (suc i) (suc j) d k h o l = begin_in_turn ss i j d (and_right _ _ k) (rise_behind (bytes_of s) (all_bytes ss) h) (omega (arith, o)) (omega (arith, l))
 
-lt_trans : (a b c : ℕ) → nat_lt a b ≡ true → nat_lt b c ≡ true → nat_lt a c ≡ true
-lt_trans a b c h k = grind (arith, common_steps, h, k)
-
 -- those that begin below a position stand before the others
-pub parts_rise : (end : ℕ) (ss : List Stretch) → are_stretches ss ≡ true → IsPartitionedBy (λ stretch. nat_lt stretch.from end) ss
-parts_rise end ss h = IsPartitionedBy-ltb (λ stretch. stretch.from) ss end (λ i j d o l. begin_in_turn ss i j d (and_left _ _ h) (and_right _ _ h) o l)
+pub begun_first : (at : ℕ) (ss : List Stretch) → are_stretches ss ≡ true → IsPartitionedBy (λ stretch. nat_lt stretch.from at) ss
+begun_first at ss h = IsPartitionedBy-ltb (λ stretch. stretch.from) ss at (λ i j d o l. begin_in_turn ss i j d (and_left _ _ h) (and_right _ _ h) o l)
 
--- the bytes before a stretch stand below its first
-before_next : (xs more : List Unsaved) (t : Stretch) → is_stretch t ≡ true → positions_rise (xs ++ (bytes_of t ++ more)) ≡ true → list_all (λ byte. nat_lt byte.at t.from) xs ≡ true
-before_next xs more t k h = by_bytes t.bytes (some_of t k) h
+-- all bytes behind a stretch stand from its end on
+behind_end : (s : Stretch) (more : List Unsaved) → is_stretch s ≡ true → positions_rise (bytes_of s ++ more) ≡ true → list_all (λ byte. nat_le (s.from + length s.bytes) byte.at) more ≡ true
+behind_end s more k h = by_bytes s.from s.bytes (some_of s k) h
   where
-    by_bytes : (bytes : List ℕ) → 0 < length bytes → positions_rise (xs ++ (written t.writer t.from bytes ++ more)) ≡ true → list_all (λ byte. nat_lt byte.at t.from) xs ≡ true
-    by_bytes [] l h = absurd (omega (arith, l))
-    by_bytes (y ∷ ys) l h = rise_before xs (written t.writer (t.from + 1) ys ++ more) (record { at = t.from; value = y; writer = t.writer }) h
+    by_bytes : (from : ℕ) (bytes : List ℕ) → 0 < length bytes → positions_rise (written s.writer from bytes ++ more) ≡ true → list_all (λ byte. nat_le (from + length bytes) byte.at) more ≡ true
+    by_bytes from [] l h = absurd (omega (arith, l))
+    by_bytes from (x ∷ []) l h =
+        let z : from + suc zero ≡ suc from = omega arith in
+        subst (λ n. list_all (λ byte. nat_le n byte.at) more ≡ true) (sym z) (and_left _ _ h)
+    by_bytes from (x ∷ y ∷ ys) l h =
+        let z : from + 1 + suc (length ys) ≡ from + suc (suc (length ys)) = omega arith in
+        subst (λ n. list_all (λ byte. nat_le n byte.at) more ≡ true) z (by_bytes (from + 1) (y ∷ ys) (omega arith) (and_right _ _ h))
 
--- the stretches before the last one that begins below a position end there or before
-pub below_of : (end : ℕ) (ss : List Stretch) (i : ℕ) → list_all is_stretch ss ≡ true → positions_rise (all_bytes ss) ≡ true → i ≤ length ss → AllWithin (λ stretch. nat_lt stretch.from end ≡ true) ss 0 i
-    → list_all (λ byte. nat_lt byte.at end) (all_bytes (take (i - 1) ss)) ≡ true
-below_of end ss zero k h b w =
-    let e : zero - 1 ≡ zero = omega arith in
-    subst (λ n. list_all (λ byte. nat_lt byte.at end) (all_bytes (take n ss)) ≡ true) (sym e) refl
-below_of end [] (suc i) k h b w = absurd (omega (arith, b))
-below_of end (s ∷ ss) (suc zero) k h b w =
-    let e : suc zero - 1 ≡ zero = omega arith in
-    subst (λ n. list_all (λ byte. nat_lt byte.at end) (all_bytes (take n (s ∷ ss))) ≡ true) (sym e) refl
-below_of end (s ∷ []) (suc (suc i)) k h b w = absurd (omega (arith, b))
-below_of end (s ∷ t ∷ ts) (suc (suc i)) k h b w =
-    let low : Unsaved → Bool = λ byte. nat_lt byte.at end in
-    let e : suc (suc i) - 1 ≡ suc i = omega arith in
-    let f : suc i - 1 ≡ i = omega arith in
-    let more : list_all low (all_bytes (take (suc i - 1) (t ∷ ts))) ≡ true
-    = below_of end (t ∷ ts) (suc i) (and_right _ _ k) (rise_behind (bytes_of s) (all_bytes (t ∷ ts)) h) (omega (arith, b)) (λ j d l u. w (suc j) d (omega arith) (omega (arith, u))) in
-    let next : nat_lt t.from end ≡ true = w (suc zero) t (omega arith) (omega arith) in
-    let before : list_all (λ byte. nat_lt byte.at t.from) (bytes_of s) ≡ true = before_next (bytes_of s) (all_bytes ts) t (and_left _ _ (and_right _ _ k)) h in
-    let here : list_all low (bytes_of s) ≡ true
-    = all_implied (λ byte. nat_lt byte.at t.from) low (λ byte m. lt_trans byte.at t.from end m next) (bytes_of s) before in
-    subst (λ n. list_all low (all_bytes (take n (s ∷ t ∷ ts))) ≡ true) (sym e)
-    (all_append low (bytes_of s) (all_bytes (take i (t ∷ ts))) here (subst (λ n. list_all low (all_bytes (take n (t ∷ ts))) ≡ true) f more))
+-- a later stretch doesn't end before an earlier one
+end_in_turn : (ss : List Stretch) (i j : ℕ) (d : Stretch) → list_all is_stretch ss ≡ true → positions_rise (all_bytes ss) ≡ true → i ≤ j → j < length ss
+    → (get_or ss i d).from + length (get_or ss i d).bytes ≤ (get_or ss j d).from + length (get_or ss j d).bytes
+end_in_turn [] i j d k h o l = absurd (omega (arith, l))
+end_in_turn (s ∷ ss) zero zero d k h o l = omega arith
+end_in_turn (s ∷ ss) zero (suc j) d k h o l =
+    let above : nat_le (s.from + length s.bytes) (get_or ss j d).from ≡ true
+    = begins_at (nat_le (s.from + length s.bytes)) ss j d (and_right _ _ k) (behind_end s (all_bytes ss) (and_left _ _ k) h) (omega (arith, l)) in
+    let behind : s.from + length s.bytes ≤ (get_or ss j d).from = grind (arith, common_steps, above) in
+    omega (arith, behind)
+end_in_turn (s ∷ ss) (suc i) zero d k h o l = absurd (omega (arith, o))
+end_in_turn (s ∷ ss) (suc i) (suc j) d k h o l = end_in_turn ss i j d (and_right _ _ k) (rise_behind (bytes_of s) (all_bytes ss) h) (omega (arith, o)) (omega (arith, l))
+
+-- those that end below a position stand before the others
+pub ended_first : (at : ℕ) (ss : List Stretch) → are_stretches ss ≡ true → IsPartitionedBy (λ stretch. nat_lt (stretch.from + length stretch.bytes) at) ss
+ended_first at ss h = IsPartitionedBy-ltb (λ stretch. stretch.from + length stretch.bytes) ss at (λ i j d o l. end_in_turn ss i j d (and_left _ _ h) (and_right _ _ h) o l)
+
+-- and all their bytes stand below it
+pub below_of : (at : ℕ) (ss : List Stretch) (i : ℕ) → AllWithin (λ stretch. nat_lt (stretch.from + length stretch.bytes) at ≡ true) ss 0 i → list_all (λ byte. nat_lt byte.at at) (all_bytes (take i ss)) ≡ true
+below_of at ss zero w = refl
+below_of at [] (suc i) w = refl
+below_of at (s ∷ ss) (suc i) w =
+    let here : nat_lt (s.from + length s.bytes) at ≡ true = w zero s (omega arith) (omega arith) in
+    let low : s.from + length s.bytes ≤ at = grind (arith, common_steps, here) in
+    all_append (λ byte. nat_lt byte.at at) (bytes_of s) (all_bytes (take i ss)) (written_below s.writer s.from at s.bytes low) (below_of at ss i (λ j d l u. w (suc j) d (omega arith) (omega (arith, u))))
 
 -- the others have no byte below it
 pub above_of : (end : ℕ) (ss : List Stretch) (i : ℕ) → AllWithin (λ stretch. nat_lt stretch.from end ≡ false) ss i (length ss) → list_all (λ byte. nat_le end byte.at) (all_bytes (drop i ss)) ≡ true
@@ -135,14 +134,14 @@ above_later p (s ∷ ss) (suc i) zero o h = absurd (omega (arith, o))
 above_later p (s ∷ ss) (suc i) (suc j) o h = above_later p ss i j (omega (arith, o)) h
 
 -- a part of the stretches
-pub cut_found : (ss : List Stretch) (from to low high first last : ℕ) → low ≤ length ss → high ≤ length ss → first ≡ low - 1 → last ≡ max high first
-    → list_all (λ byte. nat_lt byte.at from) (all_bytes (take (low - 1) ss)) ≡ true → list_all (λ byte. nat_le to byte.at) (all_bytes (drop high ss)) ≡ true → IsCut ss from to first last
-cut_found ss from to low high first last a b e f below above =
+pub cut_found : (ss : List Stretch) (from to low high last : ℕ) → low ≤ length ss → high ≤ length ss → last ≡ max high low
+    → list_all (λ byte. nat_lt byte.at from) (all_bytes (take low ss)) ≡ true → list_all (λ byte. nat_le to byte.at) (all_bytes (drop high ss)) ≡ true → IsCut ss from to low last
+cut_found ss from to low high last a b e below above =
     record {
-      ordered = omega (arith, f);
-      inside = omega (arith, a, b, e, f);
-      below = subst (λ n. list_all (λ byte. nat_lt byte.at from) (all_bytes (take n ss)) ≡ true) (sym e) below;
-      above = above_later (λ byte. nat_le to byte.at) ss high last (omega (arith, f)) above;
+      ordered = omega (arith, e);
+      inside = omega (arith, a, b, e);
+      below = below;
+      above = above_later (λ byte. nat_le to byte.at) ss high last (omega (arith, e)) above;
     }
 
 -- the front of a list and the rest of it

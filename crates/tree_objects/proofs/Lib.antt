@@ -3,6 +3,7 @@ pub mod Observed
 pub mod Rising
 mod Pieces
 mod Cuts
+mod Taken
 mod Stored
 mod Laid
 mod Owned

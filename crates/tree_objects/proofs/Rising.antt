@@ -73,7 +73,7 @@ written_from host m at [] h = refl
 written_from host m at (x ∷ xs) h = and_both _ _ (grind (arith, common_steps, h)) (written_from host m (at + 1) xs (omega (arith, h)))
 
 -- written bytes stand before the end
-written_below : (host : HostId) (at m : ℕ) (bytes : List ℕ) → at + length bytes ≤ m → list_all (λ b. nat_lt b.at m) (written host at bytes) ≡ true
+pub written_below : (host : HostId) (at m : ℕ) (bytes : List ℕ) → at + length bytes ≤ m → list_all (λ b. nat_lt b.at m) (written host at bytes) ≡ true
 written_below host at m [] h = refl
 written_below host at m (x ∷ xs) h =
     let k : at < m = omega (arith, h) in

@@ -1,7 +1,8 @@
 -- Stretches of unsaved bytes.
-use Rattle.std.specs.Prelude.{ℕ, ◌+◌, ◌-◌, nat_lt, nat_le, Bool, ◌&&◌, List, ◌++◌, length, take, drop, flat_map}
+use Rattle.std.specs.Prelude.{ℕ, ◌+◌, ◌-◌, ◌==◌, nat_lt, nat_le, Bool, ◌&&◌, List, ◌++◌, length, take, drop, flat_map}
 use Rattle.std.specs.List.{list_all}
 use Rattle.base_types.specs.declared.limits.TheConstants.{FILE_BYTES_MAX}
+use Rattle.base_types.specs.declared.ids.HostId.{HostId}
 use Rattle.tree_objects.specs.declared.content.Unsaved.{Unsaved}
 use Rattle.tree_objects.specs.declared.stretch.Stretch.{Stretch}
 use Rattle.tree_objects.specs.Positions.{positions_rise, written}
@@ -25,3 +26,17 @@ are_stretches stretches = list_all is_stretch stretches && positions_rise (all_b
 -- bytes with a part put over them from a place on, as far as they reach
 abbrev pub laid : List ℕ → ℕ → List ℕ → List ℕ
 laid bytes at part = take at bytes ++ (take (length bytes - at) part ++ drop (at + length part) bytes)
+
+-- whether a host may go on with a stretch from a position on: the stretch is the host's, and the position lies in it or
+-- directly behind it
+abbrev pub reaches : HostId → ℕ → Stretch → Bool
+reaches host from stretch =
+    (stretch.writer.0 == host.0) && nat_le stretch.from from && nat_le from (stretch.from + length stretch.bytes)
+
+-- bytes with others in their place from a place on, which may go on behind the end
+abbrev pub replaced : List ℕ → ℕ → List ℕ → List ℕ
+replaced bytes at part = take at bytes ++ (part ++ drop (at + length part) bytes)
+
+-- a stretch in which bytes are written from a position on
+abbrev pub written_in : Stretch → ℕ → List ℕ → Stretch
+written_in stretch from bytes = record stretch { bytes = replaced stretch.bytes (from - stretch.from) bytes }

@@ -1,4 +1,4 @@
-ghost use Rattle.std.specs.Prelude.{◌≡◌, ◌<◌, ◌-◌, ◌++◌, ℕ, [], List, length, take, drop, replicate};
+ghost use Rattle.std.specs.Prelude.{◌≡◌, ◌<◌, ◌≤◌, ◌+◌, ◌-◌, ◌++◌, ℕ, [], List, length, take, drop, replicate};
 ghost use Rattle.std.specs.Prelude.{IfOk, OnErr, OnOk};
 ghost use Rattle.tree_objects.specs.Files.{
   present_length,
@@ -7,7 +7,7 @@ ghost use Rattle.tree_objects.specs.Files.{
   content_bytes,
   resized,
 };
-ghost use Rattle.tree_objects.specs.Stretches.{all_bytes, laid};
+ghost use Rattle.tree_objects.specs.Stretches.{all_bytes, laid, replaced};
 
 use crate::content::{Content, Object, UnsavedLength};
 use crate::stretch::Stretch;
@@ -125,6 +125,36 @@ fn put_stretch(bytes: &mut [u8], stretch: &Stretch, from: usize)
     let at = start.saturating_sub(from).min(bytes.len());
     let count = (written.len() - skipped).min(bytes.len() - at);
     bytes[at..at + count].copy_from_slice(&written[skipped..skipped + count]);
+}
+
+/// Puts others in the place of bytes from a place on; they may go on behind the end. After `NoMemory` nothing has changed.
+pub(crate) fn replace(bytes: &mut Items<u8>, at: usize, part: &[u8]) -> Result<(), NoMemory>
+    requires { at ≤ length bytes.old }
+    ensures ok { OnOk result (bytes.new ≡ replaced bytes.old at part.now) }
+    ensures err { OnErr result (bytes.new ≡ bytes.old) }
+{
+    let inside = part.len().min(bytes.len() - at);
+    bytes.extend(&part[inside..])?;
+    put_at(bytes, at, &part[..inside]);
+    Ok(())
+}
+
+// Puts others in the place of bytes from a place on.
+fn put_at(bytes: &mut Items<u8>, at: usize, part: &[u8])
+    requires { at + length part.now ≤ length bytes.old }
+    ensures { bytes.new ≡ replaced bytes.old at part.now }
+{
+    let alloc = bytes.alloc();
+    let mut list = mem::replace(bytes, Items::new(alloc)).into_vec();
+    put_part(list.as_mut_slice(), at, part);
+    *bytes = Items::from_vec(list);
+}
+
+fn put_part(bytes: &mut [u8], at: usize, part: &[u8])
+    requires { at + length part.now ≤ length bytes.old }
+    ensures { bytes.new ≡ replaced bytes.old at part.now }
+{
+    bytes[at..at + part.len()].copy_from_slice(part);
 }
 
 // So many kept bytes from the position `from` on, with zeros where there are fewer.

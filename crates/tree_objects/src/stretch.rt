@@ -1,10 +1,11 @@
 //! Stretches of unsaved bytes.
-ghost use Rattle.std.specs.Prelude.{◌≡◌, ◌≤◌, ◌+◌, ◌-◌, ◌++◌, true, take, drop, length, min, slice_get, filter, nat_lt, nat_le, OnOk, IfOk};
+ghost use Rattle.std.specs.Prelude.{◌≡◌, ◌≤◌, ◌+◌, ◌-◌, ◌++◌, true, take, drop, length, min, slice_get, filter, nat_lt, nat_le, OnOk, OnErr, IfOk};
 ghost use Rattle.std.specs.List.{list_all};
 ghost use Rattle.base_types.specs.declared.limits.TheConstants.{FILE_BYTES_MAX};
 ghost use Rattle.tree_objects.specs.Positions.{written};
-ghost use Rattle.tree_objects.specs.Stretches.{bytes_of, all_bytes, is_stretch};
+ghost use Rattle.tree_objects.specs.Stretches.{bytes_of, all_bytes, is_stretch, reaches, written_in};
 
+use crate::bytes::replace;
 use crate::content::Unsaved;
 use base_types::{HostId, Items, NoMemory, Plain};
 use std::alloc::Global;
@@ -37,6 +38,31 @@ impl Plain for Stretch {
             bytes: self.bytes.to_items()?,
         })
     }
+}
+
+/// The position behind the last byte of a stretch.
+pub(crate) fn end(stretch: &Stretch) -> usize
+    ensures { result ≡ stretch.now.from + length stretch.now.bytes }
+{
+    stretch.from as usize + stretch.bytes.as_slice().len()
+}
+
+/// Whether a host may go on with a stretch from a position on, which lies in it or directly behind it.
+pub(crate) fn reaches(stretch: &Stretch, host: HostId, from: u32) -> bool
+    ensures { result ≡ reaches host from stretch.now }
+{
+    stretch.writer == host && stretch.from <= from && from as usize <= end(stretch)
+}
+
+/// Writes bytes in a stretch from a position on, which it reaches.
+pub(crate) fn write_in(stretch: &mut Stretch, from: u32, bytes: &[u8]) -> Result<(), NoMemory>
+    requires begun { stretch.old.from ≤ from }
+    requires reached { from ≤ stretch.old.from + length stretch.old.bytes }
+    ensures ok { OnOk result (stretch.new ≡ written_in stretch.old from bytes.now) }
+    ensures err { OnErr result (stretch.new ≡ stretch.old) }
+{
+    let at = (from - stretch.from) as usize;
+    replace(&mut stretch.bytes, at, bytes)
 }
 
 /// The first byte of a stretch.

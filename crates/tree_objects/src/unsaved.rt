@@ -33,11 +33,13 @@ ghost use Rattle.tree_objects.specs.Cuts.{IsCut, first_of, end_of, next_of};
 ghost use Rattle.tree_objects.specs.Files.{bytes_over};
 ghost use Rattle.tree_objects.specs.Positions.{written};
 ghost use Rattle.tree_objects.specs.Stores.{is_stored};
-ghost use Rattle.tree_objects.specs.Stretches.{bytes_of, all_bytes, is_stretch, are_stretches};
+ghost use Rattle.tree_objects.specs.Stretches.{bytes_of, all_bytes, is_stretch, are_stretches, reaches};
 
 use crate::bytes::{bytes_over, lengthen, put_each};
 use crate::content::Unsaved;
-use crate::stretch::{Stretch, first_byte, push_above, push_below, push_part, push_written};
+use crate::stretch::{
+    Stretch, end, first_byte, push_above, push_below, push_part, push_written, reaches, write_in,
+};
 use base_types::{FILE_BYTES_MAX, HostId, Items, NoMemory, Plain, Span};
 use std::alloc::Global;
 use std::marker::Model;
@@ -132,12 +134,7 @@ impl UnsavedBytes {
         ensures ok { OnOk result (self.new ≡ unsaved_after self.old host from bytes.now) }
         ensures err { OnErr result (self.new ≡ self.old) }
     {
-        let alloc = self.stretches.alloc();
-        let stretches = self.stretches.as_slice();
-        let cut = cut_at(stretches, from as usize, from as usize + bytes.len());
-        let part = &stretches[cut.from..cut.to];
-        let written = written_over(alloc, part, host, from, bytes)?;
-        put_between(&mut self.stretches, cut, written)?;
+        put_written(&mut self.stretches, host, from, bytes)?;
         Ok(())
     }
 
@@ -231,25 +228,33 @@ struct Cut {
     to: usize,
 }
 
-// How many of the stretches begin below a position. All but the last of these end there or before.
-fn count_below(stretches: &[Stretch], end: usize) -> usize
+// How many of the stretches end below a position.
+fn count_ended(stretches: &[Stretch], at: usize) -> usize
     requires { are_stretches stretches.now ≡ true }
     ensures within { result ≤ length stretches.now }
-    ensures below { list_all (λ byte. nat_lt byte.at end) (all_bytes (take (result - 1) stretches.now)) ≡ true }
-    ensures above { list_all (λ byte. nat_le end byte.at) (all_bytes (drop result stretches.now)) ≡ true }
+    ensures below { list_all (λ byte. nat_lt byte.at at) (all_bytes (take result stretches.now)) ≡ true }
 {
-    stretches.partition_point(|stretch| (stretch.from as usize) < end)
+    stretches.partition_point(|stretch| end(stretch) < at)
 }
 
-// A part of the stretches in which all bytes of a span stand.
+// How many of the stretches begin below a position.
+fn count_begun(stretches: &[Stretch], at: usize) -> usize
+    requires { are_stretches stretches.now ≡ true }
+    ensures within { result ≤ length stretches.now }
+    ensures above { list_all (λ byte. nat_le at byte.at) (all_bytes (drop result stretches.now)) ≡ true }
+{
+    stretches.partition_point(|stretch| (stretch.from as usize) < at)
+}
+
+// A part of the stretches in which all bytes of a span stand. One that ends where the span begins belongs to it.
 fn cut_at(stretches: &[Stretch], from: usize, to: usize) -> Cut
     requires { are_stretches stretches.now ≡ true }
     ensures { IsCut stretches.now from to result.from result.to }
 {
-    let first = count_below(stretches, from).saturating_sub(1);
+    let first = count_ended(stretches, from);
     Cut {
         from: first,
-        to: count_below(stretches, to).max(first),
+        to: count_begun(stretches, to).max(first),
     }
 }
 
@@ -297,6 +302,64 @@ fn put_between(
     let put = list.splice(cut.from..cut.to, written);
     *stretches = Items::from_vec(list);
     put?;
+    Ok(())
+}
+
+// Puts the bytes that a host writes from a position on among those of stretches, in the place of those that are written
+// over. A stretch of the host that goes on there becomes longer.
+fn put_written(
+    stretches: &mut Items<Stretch>,
+    host: HostId,
+    from: u32,
+    bytes: &[u8],
+) -> Result<(), NoMemory>
+    requires stand { are_stretches stretches.old ≡ true }
+    requires within { from + length bytes.now ≤ FILE_BYTES_MAX }
+    ensures ok { OnOk result (all_bytes stretches.new ≡ unsaved_after (all_bytes stretches.old) host from bytes.now) }
+    ensures each { OnOk result (list_all is_stretch stretches.new ≡ true) }
+    ensures err { OnErr result (stretches.new ≡ stretches.old) }
+{
+    let list = stretches.as_slice();
+    let cut = cut_at(list, from as usize, from as usize + bytes.len());
+    if takes(&list[cut.from..cut.to], host, from) {
+        write_in(stretches.get_mut(cut.from), from, bytes)
+    } else {
+        write_over(stretches, cut, host, from, bytes)
+    }
+}
+
+// Whether a part is one stretch that a host may go on with from a position on.
+fn takes(part: &[Stretch], host: HostId, from: u32) -> bool
+    ensures { result ≡ ((length part.now == 1) && list_all (reaches host from) part.now) }
+{
+    part.len() == 1 && each_reaches(part, host, from)
+}
+
+fn each_reaches(part: &[Stretch], host: HostId, from: u32) -> bool
+    ensures { result ≡ list_all (reaches host from) part.now }
+{
+    part.iter().all(|stretch| reaches(stretch, host, from))
+}
+
+// Puts the bytes that a host writes from a position on in the place of a part of the stretches.
+fn write_over(
+    stretches: &mut Items<Stretch>,
+    cut: Cut,
+    host: HostId,
+    from: u32,
+    bytes: &[u8],
+) -> Result<(), NoMemory>
+    requires each { list_all is_stretch stretches.old ≡ true }
+    requires cut { IsCut stretches.old from (from + length bytes.now) cut.from cut.to }
+    requires within { from + length bytes.now ≤ FILE_BYTES_MAX }
+    ensures ok { OnOk result (all_bytes stretches.new ≡ unsaved_after (all_bytes stretches.old) host from bytes.now) }
+    ensures each { OnOk result (list_all is_stretch stretches.new ≡ true) }
+    ensures err { OnErr result (stretches.new ≡ stretches.old) }
+{
+    let alloc = stretches.alloc();
+    let part = &stretches.as_slice()[cut.from..cut.to];
+    let written = written_over(alloc, part, host, from, bytes)?;
+    put_between(stretches, cut, written)?;
     Ok(())
 }
 
