@@ -1,5 +1,5 @@
 -- A stretch that a write goes on with.
-use Rattle.std.proofs.Common.{◌≡◌, ℕ, zero, suc, ◌+◌, ◌-◌, ◌<◌, ◌≤◌, ◌==◌, min, nat_le, nat_lt, Bool, true, false, ◌&&◌, List, [], ◌∷◌, ◌++◌, length, filter, take, drop, get_or, set, length-append, length-take, append_assoc, drop-cons, refl, sym, ap, ◌∙◌, subst, arith}
+use Rattle.std.proofs.Common.{◌≡◌, ℕ, zero, suc, ◌+◌, ◌-◌, ◌<◌, ◌≤◌, ◌==◌, min, nat_le, nat_lt, Bool, true, ◌&&◌, List, [], ◌∷◌, ◌++◌, length, filter, take, drop, get_or, set, length-append, length-take, append_assoc, drop-cons, refl, sym, ap, ◌∙◌, subst, arith}
 use Rattle.std.specs.List.{list_all, splice}
 use Rattle.std.proofs.Math.Seq.{drop-nil}
 use Rattle.std.proofs.lemmas.List.{append-nil, length-drop}

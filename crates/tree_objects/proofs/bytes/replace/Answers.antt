@@ -1,4 +1,4 @@
-use Rattle.std.proofs.Common.{◌≡◌, ◌-◌, ◌++◌, length, take, drop, length-append, length-take, arith, ◌∙◌, ap}
+use Rattle.std.proofs.Common.{◌++◌, length, take, drop, length-append, length-take, arith, ◌∙◌, ap}
 use Rattle.std.proofs.lemmas.List.{length-drop}
 use Rattle.tree_objects.specs.Stretches.{replaced}
 use Rattle.tree_objects.proofs.Pieces.{rest_all}

@@ -1,4 +1,4 @@
-use Rattle.std.proofs.Common.{◌+◌, length, nat_lt, rules}
+use Rattle.std.proofs.Common.{nat_lt, rules}
 use Rattle.std.proofs.lemmas.List.Sorted.{IsPartitionPoint-from_clause}
 use Rattle.tree_objects.proofs.Cuts.{begun_first, above_of}
 use Rattle.tree_objects.proofs.unsaved.count_begun.Goals as goal

@@ -1,8 +1,7 @@
-use Rattle.std.proofs.Common.{◌≡◌, ◌≤◌, ◌==◌, ◌&&◌, ◌+◌, ◌-◌, true, length, take, drop, set, get_or, sym, subst, ap, ◌∙◌, arith}
-use Rattle.std.specs.List.{list_all}
+use Rattle.std.proofs.Common.{◌≡◌, ◌≤◌, ◌+◌, length, set, get_or, sym, subst, ap, ◌∙◌, arith}
 use Rattle.std.proofs.lemmas.Result.{on_ok_weaker}
 use Rattle.tree_objects.specs.Cuts.{IsCut}
-use Rattle.tree_objects.specs.Stretches.{reaches, written_in}
+use Rattle.tree_objects.specs.Stretches.{written_in}
 use Rattle.tree_objects.proofs.Observed.{and_left}
 use Rattle.tree_objects.proofs.Taken.{Lone, lone_inside, lone_of, taken_bytes, taken_each}
 use Rattle.tree_objects.proofs.unsaved.put_written.Goals as goal

@@ -1,4 +1,4 @@
-use Rattle.std.proofs.Common.{◌≡◌, true, sym, ◌+◌, ◌-◌, take, drop, length, subst, ap, ◌∙◌}
+use Rattle.std.proofs.Common.{◌≡◌, true, sym, ◌-◌, take, drop, subst, ap, ◌∙◌}
 use Rattle.std.specs.List.{list_all}
 use Rattle.tree_objects.specs.Changes.{unsaved_after}
 use Rattle.tree_objects.specs.Stretches.{all_bytes, is_stretch}
