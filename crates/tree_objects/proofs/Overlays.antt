@@ -114,10 +114,3 @@ over_put kept unsaved byte at n =
       | inl (e, h) ↦ rw e (over_set kept unsaved byte at n (byte.at - at) (omega (arith, h)))
       | inr (e, h) ↦ rw e (sym (over_below kept unsaved byte at n h))
     ]
-
--- the unsaved bytes from a place on, put over in turn from the last one
-pub over_next : (kept : List ℕ) (unsaved : List Unsaved) (at n i : ℕ) (byte : Unsaved) → i < length unsaved → byte ≡ get_or unsaved i byte → bytes_with (bytes_over kept (drop (suc i) unsaved) at n) byte at ≡ bytes_over kept (drop i unsaved) at n
-over_next kept unsaved at n i byte h e =
-    over_put kept (drop (suc i) unsaved) byte at n
-    ∙ ap (λ b. bytes_over kept (b ∷ drop (suc i) unsaved) at n) e
-    ∙ ap (λ bytes. bytes_over kept bytes at n) (sym (drop-cons unsaved i byte h))

@@ -127,7 +127,8 @@ fn put_stretch(bytes: &mut [u8], stretch: &Stretch, from: usize)
     bytes[at..at + count].copy_from_slice(&written[skipped..skipped + count]);
 }
 
-/// Puts others in the place of bytes from a place on; they may go on behind the end. After `NoMemory` nothing has changed.
+/// Puts others in the place of bytes from a place on; they may go on behind the end. After `NoMemory` nothing has
+/// changed.
 pub(crate) fn replace(bytes: &mut Items<u8>, at: usize, part: &[u8]) -> Result<(), NoMemory>
     requires { at ≤ length bytes.old }
     ensures ok { OnOk result (bytes.new ≡ replaced bytes.old at part.now) }

@@ -3,10 +3,12 @@
 
 mod bytes;
 mod content;
+mod cuts;
 mod entries;
 mod laws;
 mod losses;
 mod object;
+mod splits;
 mod storing;
 mod stretch;
 mod unsaved;

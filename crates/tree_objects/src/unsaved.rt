@@ -3,21 +3,12 @@ ghost use Rattle.std.specs.Prelude.{
   ◌+◌,
   ◌-◌,
   ◌≤◌,
-  ◌<◌,
   ◌++◌,
   ◌==◌,
   ◌&&◌,
-  ℕ,
-  nat_lt,
-  nat_le,
-  min,
-  max,
   not,
-  if◌then◌else◌,
   true,
   [],
-  take,
-  drop,
   slice_get,
   length,
   filter,
@@ -25,25 +16,25 @@ ghost use Rattle.std.specs.Prelude.{
   OnOk,
   OnErr,
 };
-ghost use Rattle.std.specs.List.{find, list_all, splice};
-ghost use Rattle.base_types.specs.Spans.{has_byte, in_spans};
+ghost use Rattle.std.specs.List.{list_all};
 ghost use Rattle.base_types.specs.declared.limits.TheConstants.{FILE_BYTES_MAX};
 ghost use Rattle.tree_objects.specs.Changes.{unsaved_after};
-ghost use Rattle.tree_objects.specs.Cuts.{IsCut, first_of, end_of, next_of};
+ghost use Rattle.tree_objects.specs.Cuts.{IsCut};
 ghost use Rattle.tree_objects.specs.Files.{bytes_over};
 ghost use Rattle.tree_objects.specs.Positions.{written};
 ghost use Rattle.tree_objects.specs.Stores.{is_stored};
-ghost use Rattle.tree_objects.specs.Stretches.{bytes_of, all_bytes, is_stretch, are_stretches, reaches};
+ghost use Rattle.tree_objects.specs.Stretches.{all_bytes, is_stretch, are_stretches, reaches};
 
 use crate::bytes::{bytes_over, lengthen, put_each};
 use crate::content::Unsaved;
+use crate::cuts::{Cut, cut_at, cut_of, put_between};
+use crate::splits::split_stored;
 use crate::stretch::{
-    Stretch, end, first_byte, push_above, push_below, push_part, push_written, reaches, write_in,
+    Stretch, first_byte, push_above, push_below, push_written, reaches, write_in,
 };
-use base_types::{FILE_BYTES_MAX, HostId, Items, NoMemory, Plain, Span};
+use base_types::{HostId, Items, NoMemory, Plain, Span};
 use std::alloc::Global;
 use std::marker::Model;
-use std::mem;
 
 /// The bytes of a file that aren't stored yet, in the order of their positions, each of which has at most one.
 /// Contracts see it as the list of these bytes.
@@ -221,90 +212,6 @@ fn push_bytes(
     Ok(())
 }
 
-/// A part of a list: the places from `from` on and before `to`.
-#[derive(Clone, Copy)]
-struct Cut {
-    from: usize,
-    to: usize,
-}
-
-// How many of the stretches end below a position.
-fn count_ended(stretches: &[Stretch], at: usize) -> usize
-    requires { are_stretches stretches.now ≡ true }
-    ensures within { result ≤ length stretches.now }
-    ensures below { list_all (λ byte. nat_lt byte.at at) (all_bytes (take result stretches.now)) ≡ true }
-{
-    stretches.partition_point(|stretch| end(stretch) < at)
-}
-
-// How many of the stretches begin below a position.
-fn count_begun(stretches: &[Stretch], at: usize) -> usize
-    requires { are_stretches stretches.now ≡ true }
-    ensures within { result ≤ length stretches.now }
-    ensures above { list_all (λ byte. nat_le at byte.at) (all_bytes (drop result stretches.now)) ≡ true }
-{
-    stretches.partition_point(|stretch| (stretch.from as usize) < at)
-}
-
-// A part of the stretches in which all bytes of a span stand. One that ends where the span begins belongs to it.
-fn cut_at(stretches: &[Stretch], from: usize, to: usize) -> Cut
-    requires { are_stretches stretches.now ≡ true }
-    ensures { IsCut stretches.now from to result.from result.to }
-{
-    let first = count_ended(stretches, from);
-    Cut {
-        from: first,
-        to: count_begun(stretches, to).max(first),
-    }
-}
-
-// A part of the stretches in which all bytes stand that lie between the first position and the last one of spans, below
-// `end`.
-fn cut_of(stretches: &[Stretch], spans: &[Span], end: usize) -> Cut
-    requires { are_stretches stretches.now ≡ true }
-    ensures { IsCut stretches.now (first_of spans.now end)
-        (max (min (end_of spans.now) end) (first_of spans.now end)) result.from result.to }
-{
-    let from = first_of(spans, end);
-    let to = end_of(spans).min(end).max(from);
-    cut_at(stretches, from, to)
-}
-
-// The first position that spans begin at, and `end` where none begins before it.
-fn first_of(spans: &[Span], end: usize) -> usize
-    ensures { result ≡ first_of spans.now end }
-{
-    spans
-        .iter()
-        .fold(end, |from, span| from.min(span.from as usize))
-}
-
-// The last position that spans end before, and 0 of none.
-fn end_of(spans: &[Span]) -> usize
-    ensures { result ≡ end_of spans.now }
-{
-    spans.iter().fold(0, |to, span| to.max(span.to as usize))
-}
-
-// Puts these stretches in the place of a part of the list.
-fn put_between(
-    stretches: &mut Items<Stretch>,
-    cut: Cut,
-    written: Vec<Stretch>,
-) -> Result<(), NoMemory>
-    requires ordered { cut.from ≤ cut.to }
-    requires within { cut.to ≤ length stretches.old }
-    ensures ok { OnOk result (stretches.new ≡ splice stretches.old cut.from cut.to written.items) }
-    ensures err { OnErr result (stretches.new ≡ stretches.old) }
-{
-    let alloc = stretches.alloc();
-    let mut list = mem::replace(stretches, Items::new(alloc)).into_vec();
-    let put = list.splice(cut.from..cut.to, written);
-    *stretches = Items::from_vec(list);
-    put?;
-    Ok(())
-}
-
 // Puts the bytes that a host writes from a position on among those of stretches, in the place of those that are written
 // over. A stretch of the host that goes on there becomes longer.
 fn put_written(
@@ -373,7 +280,8 @@ fn written_over(
 ) -> Result<Vec<Stretch>, NoMemory>
     requires within { from + length bytes.now ≤ FILE_BYTES_MAX }
     requires each { list_all is_stretch part.now ≡ true }
-    ensures value { IfOk result (λ list. all_bytes list.items ≡ unsaved_after (all_bytes part.now) host from bytes.now) }
+    ensures value { IfOk result
+        (λ list. all_bytes list.items ≡ unsaved_after (all_bytes part.now) host from bytes.now) }
     ensures each { IfOk result (λ list. list_all is_stretch list.items ≡ true) }
 {
     let mut list = Vec::with_capacity(alloc, 3)?;
@@ -388,154 +296,4 @@ fn drop_own(stretches: &mut Items<Stretch>, host: HostId)
     ensures { stretches.new ≡ filter (λ stretch. not (stretch.writer.0 == host.0)) stretches.old }
 {
     stretches.retain(|stretch| stretch.writer != host);
-}
-
-// The stretches that become kept, and those that don't.
-fn split_stored(
-    alloc: Global,
-    stretches: &[Stretch],
-    host: HostId,
-    spans: &[Span],
-    end: usize,
-) -> Result<(Vec<Stretch>, Vec<Stretch>), NoMemory>
-    requires { list_all is_stretch stretches.now ≡ true }
-    ensures stored { IfOk result
-        (λ both. all_bytes both.0.items ≡ filter (is_stored host spans.now end) (all_bytes stretches.now)) }
-    ensures left { IfOk result (λ both. all_bytes both.1.items
-        ≡ filter (λ byte. not (is_stored host spans.now end byte)) (all_bytes stretches.now)) }
-    ensures each { IfOk result (λ both. list_all is_stretch both.1.items ≡ true) }
-{
-    let mut stored = Vec::new(alloc);
-    let mut left = Vec::new(alloc);
-    for stretch in stretches {
-        split_one(&mut stored, &mut left, stretch, host, spans, end)?;
-    }
-    Ok((stored, left))
-}
-
-// Adds the parts of a stretch that become kept, and those that don't.
-fn split_one(
-    stored: &mut Vec<Stretch>,
-    left: &mut Vec<Stretch>,
-    stretch: &Stretch,
-    host: HostId,
-    spans: &[Span],
-    end: usize,
-) -> Result<(), NoMemory>
-    requires { is_stretch stretch.now ≡ true }
-    ensures stored { OnOk result (all_bytes stored.new.items
-        ≡ all_bytes stored.old.items ++ filter (is_stored host spans.now end) (bytes_of stretch.now)) }
-    ensures left { OnOk result (all_bytes left.new.items
-        ≡ all_bytes left.old.items ++ filter (λ byte. not (is_stored host spans.now end byte)) (bytes_of stretch.now)) }
-    ensures each { OnOk result (list_all is_stretch left.old.items ≡ true → list_all is_stretch left.new.items ≡ true) }
-{
-    let count = stretch.bytes.len();
-    let limit = limit_of(stretch, host, end);
-    let mut done = 0;
-    while done < count {
-        let part = part_at(spans, limit, stretch.from as usize + done);
-        let next = (part.to - stretch.from as usize).min(count);
-        push_either(stored, left, stretch, done, next, part.stored)?;
-        done = next;
-    }
-    Ok(())
-}
-
-// Adds a part of a stretch to those that become kept, or to those that don't.
-fn push_either(
-    stored: &mut Vec<Stretch>,
-    left: &mut Vec<Stretch>,
-    stretch: &Stretch,
-    from: usize,
-    to: usize,
-    is_stored: bool,
-) -> Result<(), NoMemory>
-    requires ordered { from ≤ to }
-    requires within { to ≤ length stretch.now.bytes }
-    requires stretch { is_stretch stretch.now ≡ true }
-    ensures stored { OnOk result (all_bytes stored.new.items ≡ if is_stored then all_bytes stored.old.items
-        ++ written stretch.now.writer (stretch.now.from + from) (take (to - from) (drop from stretch.now.bytes))
-        else all_bytes stored.old.items) }
-    ensures left { OnOk result (all_bytes left.new.items ≡ if not is_stored then all_bytes left.old.items
-        ++ written stretch.now.writer (stretch.now.from + from) (take (to - from) (drop from stretch.now.bytes))
-        else all_bytes left.old.items) }
-    ensures each { OnOk result (list_all is_stretch left.old.items ≡ true → list_all is_stretch left.new.items ≡ true) }
-{
-    if is_stored {
-        push_part(stored, stretch, from, to)
-    } else {
-        push_part(left, stretch, from, to)
-    }
-}
-
-/// Positions before `to`, the bytes at which all become kept, or none.
-#[derive(Clone, Copy)]
-struct Part {
-    stored: bool,
-    to: usize,
-}
-
-// Below which position the bytes of a stretch become kept, as a host stores.
-fn limit_of(stretch: &Stretch, host: HostId, end: usize) -> usize
-    ensures { result ≡ if stretch.now.writer.0 == host.0 then end else 0 }
-{
-    if stretch.writer == host { end } else { 0 }
-}
-
-// The part from a position on, as spans are stored below `end`.
-#[tactic(auto, using(crate::proofs::Stored::past_stored))]
-fn part_at(spans: &[Span], end: usize, at: usize) -> Part
-    requires { at < FILE_BYTES_MAX }
-    ensures more { at < result.to }
-    ensures alike { (place : ℕ) → at ≤ place → place < result.to
-        → (nat_lt place end && in_spans spans.now place) ≡ result.stored }
-{
-    if at < end {
-        part_below(spans, end, at)
-    } else {
-        Part {
-            stored: false,
-            to: FILE_BYTES_MAX as usize,
-        }
-    }
-}
-
-#[tactic(auto, using(crate::proofs::Stored::span_stored, crate::proofs::Stored::span_more, crate::proofs::Stored::between_stored, crate::proofs::Stored::next_more))]
-fn part_below(spans: &[Span], end: usize, at: usize) -> Part
-    requires within { at < FILE_BYTES_MAX }
-    requires below { at < end }
-    ensures more { at < result.to }
-    ensures alike { (place : ℕ) → at ≤ place → place < result.to
-        → (nat_lt place end && in_spans spans.now place) ≡ result.stored }
-{
-    match span_with(spans, at) {
-        Some(span) => Part {
-            stored: true,
-            to: end.min(span.to as usize),
-        },
-        None => Part {
-            stored: false,
-            to: next_of(spans, at),
-        },
-    }
-}
-
-// The first span that has a position, where one has.
-fn span_with(spans: &[Span], at: usize) -> Option<Span>
-    ensures { result ≡ find (λ span. has_byte span at) spans.now }
-{
-    spans
-        .iter()
-        .copied()
-        .find(|span| span.from as usize <= at && at < span.to as usize)
-}
-
-// The first position behind `at` that spans begin at, and the end of the longest file where none begins there.
-fn next_of(spans: &[Span], at: usize) -> usize
-    ensures { result ≡ next_of spans.now at }
-{
-    spans.iter().fold(FILE_BYTES_MAX as usize, |next, span| {
-        let from = span.from as usize;
-        if at < from { next.min(from) } else { next }
-    })
 }

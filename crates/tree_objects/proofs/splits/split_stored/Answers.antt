@@ -2,7 +2,7 @@ use Rattle.std.proofs.Common.{not}
 use Rattle.tree_objects.specs.Stores.{is_stored}
 use Rattle.tree_objects.specs.Stretches.{is_stretch}
 use Rattle.tree_objects.proofs.Owned.{each_item, passing_next}
-use Rattle.tree_objects.proofs.unsaved.split_stored.Goals as goal
+use Rattle.tree_objects.proofs.splits.split_stored.Goals as goal
 
 pub split_one-requires : goal.split_one-requires
 split_one-requires c = each_item is_stretch c.args.stretches.now c.loop-stretch.stretch-index c.stretch-item.result c.requires c.loop-stretch-test.true c.stretch-item.is

@@ -2,7 +2,7 @@ use Rattle.std.proofs.Common.{◌≡◌, ◌++◌, true, drop, filter, not}
 use Rattle.std.specs.List.{list_all}
 use Rattle.tree_objects.specs.Stores.{is_stored}
 use Rattle.tree_objects.specs.Stretches.{all_bytes, is_stretch}
-use Rattle.tree_objects.proofs.unsaved.split_stored.Given as goal
+use Rattle.tree_objects.proofs.splits.split_stored.Given as goal
 
 -- what is there and what is left, of both
 abbrev pub invariant-loop-stretch : goal.invariant-loop-stretch

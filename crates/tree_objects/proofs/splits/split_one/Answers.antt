@@ -3,7 +3,7 @@ use Rattle.base_types.specs.Spans.{in_spans}
 use Rattle.tree_objects.specs.Stores.{is_stored}
 use Rattle.tree_objects.proofs.Pieces.{within_of}
 use Rattle.tree_objects.proofs.Stored.{none_added, part_added, all_added, own_limit}
-use Rattle.tree_objects.proofs.unsaved.split_one.Goals as goal
+use Rattle.tree_objects.proofs.splits.split_one.Goals as goal
 
 pub loop-done-init : goal.loop-done-init
 loop-done-init c = record {

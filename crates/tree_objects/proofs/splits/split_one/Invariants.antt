@@ -3,7 +3,7 @@ use Rattle.std.specs.List.{list_all}
 use Rattle.tree_objects.specs.Positions.{written}
 use Rattle.tree_objects.specs.Stores.{is_stored}
 use Rattle.tree_objects.specs.Stretches.{bytes_of, all_bytes, is_stretch}
-use Rattle.tree_objects.proofs.unsaved.split_one.Given as goal
+use Rattle.tree_objects.proofs.splits.split_one.Given as goal
 
 -- the parts so far, and what is left of the stretch
 abbrev pub invariant-loop-done : goal.invariant-loop-done
