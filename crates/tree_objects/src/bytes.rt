@@ -1,12 +1,6 @@
 ghost use Rattle.std.specs.Prelude.{◌≡◌, ◌<◌, ◌≤◌, ◌+◌, ◌-◌, ◌++◌, ℕ, [], List, length, take, drop, replicate};
 ghost use Rattle.std.specs.Prelude.{IfOk, OnErr, OnOk};
-ghost use Rattle.tree_objects.specs.Files.{
-  present_length,
-  present_bytes,
-  bytes_over,
-  content_bytes,
-  resized,
-};
+ghost use Rattle.tree_objects.specs.Files.{present_length, present_bytes, bytes_over, content_bytes, resized};
 ghost use Rattle.tree_objects.specs.Stretches.{all_bytes, laid, replaced};
 
 use crate::content::{Content, Object, UnsavedLength};

@@ -45,8 +45,8 @@ pub(crate) fn cut_at(stretches: &[Stretch], from: usize, to: usize) -> Cut
     }
 }
 
-/// A part of the stretches in which all bytes stand that lie between the first position and the last one of spans, below
-/// `end`.
+/// A part of the stretches in which all bytes stand that lie between the first position and the last one of spans,
+/// below `end`.
 pub(crate) fn cut_of(stretches: &[Stretch], spans: &[Span], end: usize) -> Cut
     requires { are_stretches stretches.now ≡ true }
     ensures { IsCut stretches.now (first_of spans.now end)

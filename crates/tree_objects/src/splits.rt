@@ -1,25 +1,6 @@
 //! How stretches are split, as a host stores some of their bytes.
-ghost use Rattle.std.specs.Prelude.{
-  ◌≡◌,
-  ◌+◌,
-  ◌-◌,
-  ◌≤◌,
-  ◌<◌,
-  ◌++◌,
-  ◌==◌,
-  ◌&&◌,
-  ℕ,
-  nat_lt,
-  not,
-  if◌then◌else◌,
-  true,
-  take,
-  drop,
-  length,
-  filter,
-  IfOk,
-  OnOk,
-};
+ghost use Rattle.std.specs.Prelude.{◌≡◌, ◌+◌, ◌-◌, ◌≤◌, ◌<◌, ◌++◌, ◌==◌, ◌&&◌, ℕ, nat_lt, not, if◌then◌else◌, true};
+ghost use Rattle.std.specs.Prelude.{take, drop, length, filter, IfOk, OnOk};
 ghost use Rattle.std.specs.List.{find, list_all};
 ghost use Rattle.base_types.specs.Spans.{has_byte, in_spans};
 ghost use Rattle.base_types.specs.declared.limits.TheConstants.{FILE_BYTES_MAX};

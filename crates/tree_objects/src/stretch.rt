@@ -1,23 +1,6 @@
 //! Stretches of unsaved bytes.
-ghost use Rattle.std.specs.Prelude.{
-  ◌≡◌,
-  ◌≤◌,
-  ◌+◌,
-  ◌-◌,
-  ◌++◌,
-  true,
-  take,
-  drop,
-  length,
-  min,
-  slice_get,
-  filter,
-  nat_lt,
-  nat_le,
-  OnOk,
-  OnErr,
-  IfOk,
-};
+ghost use Rattle.std.specs.Prelude.{◌≡◌, ◌≤◌, ◌+◌, ◌-◌, ◌++◌, true, take, drop, length, min, slice_get, filter, nat_lt};
+ghost use Rattle.std.specs.Prelude.{nat_le, OnOk, OnErr, IfOk};
 ghost use Rattle.std.specs.List.{list_all};
 ghost use Rattle.base_types.specs.declared.limits.TheConstants.{FILE_BYTES_MAX};
 ghost use Rattle.tree_objects.specs.Positions.{written};

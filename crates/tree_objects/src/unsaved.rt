@@ -1,21 +1,5 @@
-ghost use Rattle.std.specs.Prelude.{
-  ◌≡◌,
-  ◌+◌,
-  ◌-◌,
-  ◌≤◌,
-  ◌++◌,
-  ◌==◌,
-  ◌&&◌,
-  not,
-  true,
-  [],
-  slice_get,
-  length,
-  filter,
-  IfOk,
-  OnOk,
-  OnErr,
-};
+ghost use Rattle.std.specs.Prelude.{◌≡◌, ◌+◌, ◌-◌, ◌≤◌, ◌++◌, ◌==◌, ◌&&◌, not, true, [], slice_get, length, filter};
+ghost use Rattle.std.specs.Prelude.{IfOk, OnOk, OnErr};
 ghost use Rattle.std.specs.List.{list_all};
 ghost use Rattle.base_types.specs.declared.limits.TheConstants.{FILE_BYTES_MAX};
 ghost use Rattle.tree_objects.specs.Changes.{unsaved_after};
