@@ -1,5 +1,7 @@
 -- A part of the stretches in which all bytes of a span stand, and what is put in its place.
-use Rattle.std.proofs.Common.{◌≡◌, ℕ, zero, suc, ◌+◌, ◌-◌, ◌<◌, ◌≤◌, ◌==◌, nat_le, nat_lt, Bool, true, false, not, List, [], ◌∷◌, ◌++◌, length, filter, map, take, drop, get_or, max, Option, Some, None, append_assoc, refl, sym, ap, ◌∙◌, subst, arith}
+use Rattle.std.proofs.Common.{◌≡◌, ℕ, zero, suc, ◌+◌, ◌-◌, ◌<◌, ◌≤◌, ◌==◌, nat_le, nat_lt, Bool, true, false, not}
+use Rattle.std.proofs.Common.{List, [], ◌∷◌, ◌++◌, length, filter, map, take, drop, get_or, max, Option, Some, None}
+use Rattle.std.proofs.Common.{append_assoc, refl, sym, ap, ◌∙◌, subst, arith}
 use Rattle.std.specs.List.{list_all, splice, AllWithin}
 use Rattle.std.specs.List.Sorted.{IsPartitionedBy}
 use Rattle.std.specs.Option.{option_map_or, option_or}
@@ -41,101 +43,132 @@ rise_behind [] ys h = h
 rise_behind (x ∷ xs) ys h = rise_behind xs ys (and_right _ _ h)
 
 -- a stretch begins with its first byte
-first_lt : (p : ℕ → Bool) (stretch : Stretch) (more : List Unsaved) → is_stretch stretch ≡ true → list_all (λ byte. p byte.at) (bytes_of stretch ++ more) ≡ true → p stretch.from ≡ true
+first_lt : (p : ℕ → Bool) (stretch : Stretch) (more : List Unsaved) → is_stretch stretch ≡ true → list_all
+    (λ byte. p byte.at) (bytes_of stretch ++ more) ≡ true → p stretch.from ≡ true
 first_lt p stretch more k h = by_bytes stretch.bytes (some_of stretch k) h
   where
-    by_bytes : (bytes : List ℕ) → 0 < length bytes → list_all (λ byte. p byte.at) (written stretch.writer stretch.from bytes ++ more) ≡ true → p stretch.from ≡ true
+    by_bytes : (bytes : List ℕ) → 0 < length bytes → list_all (λ byte. p byte.at)
+        (written stretch.writer stretch.from bytes ++ more) ≡ true → p stretch.from ≡ true
     by_bytes [] l h = absurd (omega (arith, l))
     by_bytes (x ∷ xs) l h = and_left _ _ h
 
 -- what holds of all positions holds of the first of each stretch
-begins_at : (p : ℕ → Bool) (ss : List Stretch) (j : ℕ) (d : Stretch) → list_all is_stretch ss ≡ true → list_all (λ byte. p byte.at) (all_bytes ss) ≡ true → j < length ss → p (get_or ss j d).from ≡ true
+begins_at : (p : ℕ → Bool) (ss : List Stretch) (j : ℕ) (d : Stretch) → list_all is_stretch ss ≡ true → list_all
+    (λ byte. p byte.at) (all_bytes ss) ≡ true → j < length ss → p (get_or ss j d).from ≡ true
 begins_at p [] j d k h l = absurd (omega (arith, l))
 begins_at p (s ∷ ss) zero d k h l = first_lt p s (all_bytes ss) (and_left _ _ k) h
-begins_at p (s ∷ ss) (suc j) d k h l = begins_at p ss j d (and_right _ _ k) (all_behind (λ byte. p byte.at) (bytes_of s) (all_bytes ss) h) (omega (arith, l))
+begins_at p (s ∷ ss) (suc j) d k h l = begins_at p ss j d (and_right _ _ k)
+    (all_behind (λ byte. p byte.at) (bytes_of s) (all_bytes ss) h) (omega (arith, l))
 
 -- all bytes behind a stretch stand above its first
-above_first : (s : Stretch) (more : List Unsaved) → is_stretch s ≡ true → positions_rise (bytes_of s ++ more) ≡ true → list_all (λ byte. nat_lt s.from byte.at) more ≡ true
+above_first : (s : Stretch) (more : List Unsaved) → is_stretch s ≡ true → positions_rise (bytes_of s ++ more) ≡ true
+    → list_all (λ byte. nat_lt s.from byte.at) more ≡ true
 above_first s more k h = by_bytes s.bytes (some_of s k) h
   where
-    by_bytes : (bytes : List ℕ) → 0 < length bytes → positions_rise (written s.writer s.from bytes ++ more) ≡ true → list_all (λ byte. nat_lt s.from byte.at) more ≡ true
+    by_bytes : (bytes : List ℕ) → 0 < length bytes → positions_rise (written s.writer s.from bytes ++ more) ≡ true
+        → list_all (λ byte. nat_lt s.from byte.at) more ≡ true
     by_bytes [] l h = absurd (omega (arith, l))
-    by_bytes (x ∷ xs) l h = all_behind (λ byte. nat_lt s.from byte.at) (written s.writer (s.from + 1) xs) more (and_left _ _ h)
+    by_bytes (x ∷ xs) l h = all_behind (λ byte. nat_lt s.from byte.at) (written s.writer (s.from + 1) xs) more
+        (and_left _ _ h)
 
 -- a later stretch doesn't begin below an earlier one
-begin_in_turn : (ss : List Stretch) (i j : ℕ) (d : Stretch) → list_all is_stretch ss ≡ true → positions_rise (all_bytes ss) ≡ true → i ≤ j → j < length ss → (get_or ss i d).from ≤ (get_or ss j d).from
+begin_in_turn : (ss : List Stretch) (i j : ℕ) (d : Stretch) → list_all is_stretch ss ≡ true → positions_rise
+    (all_bytes ss) ≡ true → i ≤ j → j < length ss → (get_or ss i d).from ≤ (get_or ss j d).from
 begin_in_turn [] i j d k h o l = absurd (omega (arith, l))
 begin_in_turn (s ∷ ss) zero zero d k h o l = omega arith
 begin_in_turn (s ∷ ss) zero (suc j) d k h o l =
     let above : nat_lt s.from (get_or ss j d).from ≡ true
-    = begins_at (nat_lt s.from) ss j d (and_right _ _ k) (above_first s (all_bytes ss) (and_left _ _ k) h) (omega (arith, l)) in
+    = begins_at (nat_lt s.from) ss j d (and_right _ _ k) (above_first s (all_bytes ss) (and_left _ _ k) h)
+    (omega (arith, l)) in
     grind (arith, common_steps, above)
 begin_in_turn (s ∷ ss) (suc i) zero d k h o l = absurd (omega (arith, o))
-begin_in_turn (s ∷ ss) (suc i) (suc j) d k h o l = begin_in_turn ss i j d (and_right _ _ k) (rise_behind (bytes_of s) (all_bytes ss) h) (omega (arith, o)) (omega (arith, l))
+begin_in_turn (s ∷ ss) (suc i) (suc j) d k h o l = begin_in_turn ss i j d (and_right _ _ k)
+    (rise_behind (bytes_of s) (all_bytes ss) h) (omega (arith, o)) (omega (arith, l))
 
 -- those that begin below a position stand before the others
-pub begun_first : (at : ℕ) (ss : List Stretch) → are_stretches ss ≡ true → IsPartitionedBy (λ stretch. nat_lt stretch.from at) ss
-begun_first at ss h = IsPartitionedBy-ltb (λ stretch. stretch.from) ss at (λ i j d o l. begin_in_turn ss i j d (and_left _ _ h) (and_right _ _ h) o l)
+pub begun_first : (at : ℕ) (ss : List Stretch) → are_stretches ss ≡ true → IsPartitionedBy
+    (λ stretch. nat_lt stretch.from at) ss
+begun_first at ss h = IsPartitionedBy-ltb (λ stretch. stretch.from) ss at
+    (λ i j d o l. begin_in_turn ss i j d (and_left _ _ h) (and_right _ _ h) o l)
 
 -- all bytes behind a stretch stand from its end on
-behind_end : (s : Stretch) (more : List Unsaved) → is_stretch s ≡ true → positions_rise (bytes_of s ++ more) ≡ true → list_all (λ byte. nat_le (s.from + length s.bytes) byte.at) more ≡ true
+behind_end : (s : Stretch) (more : List Unsaved) → is_stretch s ≡ true → positions_rise (bytes_of s ++ more) ≡ true
+    → list_all (λ byte. nat_le (s.from + length s.bytes) byte.at) more ≡ true
 behind_end s more k h = by_bytes s.from s.bytes (some_of s k) h
   where
-    by_bytes : (from : ℕ) (bytes : List ℕ) → 0 < length bytes → positions_rise (written s.writer from bytes ++ more) ≡ true → list_all (λ byte. nat_le (from + length bytes) byte.at) more ≡ true
+    by_bytes : (from : ℕ) (bytes : List ℕ) → 0 < length bytes → positions_rise (written s.writer from bytes ++ more)
+        ≡ true → list_all (λ byte. nat_le (from + length bytes) byte.at) more ≡ true
     by_bytes from [] l h = absurd (omega (arith, l))
     by_bytes from (x ∷ []) l h =
         let z : from + suc zero ≡ suc from = omega arith in
         subst (λ n. list_all (λ byte. nat_le n byte.at) more ≡ true) (sym z) (and_left _ _ h)
     by_bytes from (x ∷ y ∷ ys) l h =
         let z : from + 1 + suc (length ys) ≡ from + suc (suc (length ys)) = omega arith in
-        subst (λ n. list_all (λ byte. nat_le n byte.at) more ≡ true) z (by_bytes (from + 1) (y ∷ ys) (omega arith) (and_right _ _ h))
+        subst (λ n. list_all (λ byte. nat_le n byte.at) more ≡ true) z
+        (by_bytes (from + 1) (y ∷ ys) (omega arith) (and_right _ _ h))
 
 -- a later stretch doesn't end before an earlier one
-end_in_turn : (ss : List Stretch) (i j : ℕ) (d : Stretch) → list_all is_stretch ss ≡ true → positions_rise (all_bytes ss) ≡ true → i ≤ j → j < length ss
+end_in_turn : (ss : List Stretch) (i j : ℕ) (d : Stretch) → list_all is_stretch ss ≡ true → positions_rise
+    (all_bytes ss) ≡ true → i ≤ j → j < length ss
     → (get_or ss i d).from + length (get_or ss i d).bytes ≤ (get_or ss j d).from + length (get_or ss j d).bytes
 end_in_turn [] i j d k h o l = absurd (omega (arith, l))
 end_in_turn (s ∷ ss) zero zero d k h o l = omega arith
 end_in_turn (s ∷ ss) zero (suc j) d k h o l =
     let above : nat_le (s.from + length s.bytes) (get_or ss j d).from ≡ true
-    = begins_at (nat_le (s.from + length s.bytes)) ss j d (and_right _ _ k) (behind_end s (all_bytes ss) (and_left _ _ k) h) (omega (arith, l)) in
+    = begins_at (nat_le (s.from + length s.bytes)) ss j d (and_right _ _ k)
+    (behind_end s (all_bytes ss) (and_left _ _ k) h) (omega (arith, l)) in
     let behind : s.from + length s.bytes ≤ (get_or ss j d).from = grind (arith, common_steps, above) in
     omega (arith, behind)
 end_in_turn (s ∷ ss) (suc i) zero d k h o l = absurd (omega (arith, o))
-end_in_turn (s ∷ ss) (suc i) (suc j) d k h o l = end_in_turn ss i j d (and_right _ _ k) (rise_behind (bytes_of s) (all_bytes ss) h) (omega (arith, o)) (omega (arith, l))
+end_in_turn (s ∷ ss) (suc i) (suc j) d k h o l = end_in_turn ss i j d (and_right _ _ k)
+    (rise_behind (bytes_of s) (all_bytes ss) h) (omega (arith, o)) (omega (arith, l))
 
 -- those that end below a position stand before the others
-pub ended_first : (at : ℕ) (ss : List Stretch) → are_stretches ss ≡ true → IsPartitionedBy (λ stretch. nat_lt (stretch.from + length stretch.bytes) at) ss
-ended_first at ss h = IsPartitionedBy-ltb (λ stretch. stretch.from + length stretch.bytes) ss at (λ i j d o l. end_in_turn ss i j d (and_left _ _ h) (and_right _ _ h) o l)
+pub ended_first : (at : ℕ) (ss : List Stretch) → are_stretches ss ≡ true → IsPartitionedBy
+    (λ stretch. nat_lt (stretch.from + length stretch.bytes) at) ss
+ended_first at ss h = IsPartitionedBy-ltb (λ stretch. stretch.from + length stretch.bytes) ss at
+    (λ i j d o l. end_in_turn ss i j d (and_left _ _ h) (and_right _ _ h) o l)
 
 -- and all their bytes stand below it
-pub below_of : (at : ℕ) (ss : List Stretch) (i : ℕ) → AllWithin (λ stretch. nat_lt (stretch.from + length stretch.bytes) at ≡ true) ss 0 i → list_all (λ byte. nat_lt byte.at at) (all_bytes (take i ss)) ≡ true
+pub below_of : (at : ℕ) (ss : List Stretch) (i : ℕ) → AllWithin
+    (λ stretch. nat_lt (stretch.from + length stretch.bytes) at ≡ true) ss 0 i → list_all (λ byte. nat_lt byte.at at)
+    (all_bytes (take i ss)) ≡ true
 below_of at ss zero w = refl
 below_of at [] (suc i) w = refl
 below_of at (s ∷ ss) (suc i) w =
     let here : nat_lt (s.from + length s.bytes) at ≡ true = w zero s (omega arith) (omega arith) in
     let low : s.from + length s.bytes ≤ at = grind (arith, common_steps, here) in
-    all_append (λ byte. nat_lt byte.at at) (bytes_of s) (all_bytes (take i ss)) (written_below s.writer s.from at s.bytes low) (below_of at ss i (λ j d l u. w (suc j) d (omega arith) (omega (arith, u))))
+    all_append (λ byte. nat_lt byte.at at) (bytes_of s) (all_bytes (take i ss))
+    (written_below s.writer s.from at s.bytes low) (below_of at ss i
+    (λ j d l u. w (suc j) d (omega arith) (omega (arith, u))))
 
 -- the others have no byte below it
-pub above_of : (end : ℕ) (ss : List Stretch) (i : ℕ) → AllWithin (λ stretch. nat_lt stretch.from end ≡ false) ss i (length ss) → list_all (λ byte. nat_le end byte.at) (all_bytes (drop i ss)) ≡ true
+pub above_of : (end : ℕ) (ss : List Stretch) (i : ℕ) → AllWithin (λ stretch. nat_lt stretch.from end ≡ false) ss i
+    (length ss) → list_all (λ byte. nat_le end byte.at) (all_bytes (drop i ss)) ≡ true
 above_of end [] i w = ap (λ ss. list_all (λ byte. nat_le end byte.at) (all_bytes ss)) (drop-nil i)
 above_of end (s ∷ ss) zero w =
     let here : nat_lt s.from end ≡ false = w zero s (omega arith) (omega arith) in
     let low : end ≤ s.from = grind (arith, common_steps, here) in
-    all_append (λ byte. nat_le end byte.at) (bytes_of s) (all_bytes ss) (written_from s.writer end s.from s.bytes low) (above_of end ss zero (λ j d l u. w (suc j) d (omega arith) (omega (arith, u))))
+    all_append (λ byte. nat_le end byte.at) (bytes_of s) (all_bytes ss)
+    (written_from s.writer end s.from s.bytes low) (above_of end ss zero
+    (λ j d l u. w (suc j) d (omega arith) (omega (arith, u))))
 above_of end (s ∷ ss) (suc i) w = above_of end ss i (λ j d l u. w (suc j) d (omega (arith, l)) (omega (arith, u)))
 
 -- fewer stretches have no other bytes
-above_later : (p : Unsaved → Bool) (ss : List Stretch) (i j : ℕ) → i ≤ j → list_all p (all_bytes (drop i ss)) ≡ true → list_all p (all_bytes (drop j ss)) ≡ true
+above_later : (p : Unsaved → Bool) (ss : List Stretch) (i j : ℕ) → i ≤ j → list_all p (all_bytes (drop i ss)) ≡ true
+    → list_all p (all_bytes (drop j ss)) ≡ true
 above_later p [] i j o h = ap (λ ss. list_all p (all_bytes ss)) (drop-nil j)
 above_later p (s ∷ ss) zero zero o h = h
-above_later p (s ∷ ss) zero (suc j) o h = above_later p ss zero j (omega arith) (all_behind p (bytes_of s) (all_bytes ss) h)
+above_later p (s ∷ ss) zero (suc j) o h = above_later p ss zero j (omega arith)
+    (all_behind p (bytes_of s) (all_bytes ss) h)
 above_later p (s ∷ ss) (suc i) zero o h = absurd (omega (arith, o))
 above_later p (s ∷ ss) (suc i) (suc j) o h = above_later p ss i j (omega (arith, o)) h
 
 -- a part of the stretches
-pub cut_found : (ss : List Stretch) (from to low high last : ℕ) → low ≤ length ss → high ≤ length ss → last ≡ max high low
-    → list_all (λ byte. nat_lt byte.at from) (all_bytes (take low ss)) ≡ true → list_all (λ byte. nat_le to byte.at) (all_bytes (drop high ss)) ≡ true → IsCut ss from to low last
+pub cut_found : (ss : List Stretch) (from to low high last : ℕ) → low ≤ length ss → high ≤ length ss → last ≡ max
+    high low
+    → list_all (λ byte. nat_lt byte.at from) (all_bytes (take low ss)) ≡ true → list_all (λ byte. nat_le to byte.at)
+    (all_bytes (drop high ss)) ≡ true → IsCut ss from to low last
 cut_found ss from to low high last a b e below above =
     record {
       ordered = omega (arith, e);
@@ -156,53 +189,65 @@ around : {X : Type 0} (xs : List X) (i k : ℕ) → i ≤ k → xs ≡ take i xs
 around xs i k h =
     let e : i + (k - i) ≡ k = omega (arith, h) in
     halves xs i
-    ∙ ap (λ ys. take i xs ++ ys) (halves (drop i xs) (k - i) ∙ ap (λ ys. take (k - i) (drop i xs) ++ ys) (sym (drop_more xs i (k - i)) ∙ ap (λ n. drop n xs) e))
+    ∙ ap (λ ys. take i xs ++ ys) (halves (drop i xs) (k - i) ∙ ap (λ ys. take (k - i) (drop i xs) ++ ys)
+    (sym (drop_more xs i (k - i)) ∙ ap (λ n. drop n xs) e))
 
 -- the bytes of three lists
 three_bytes : (xs ys zs : List Stretch) → all_bytes (xs ++ (ys ++ zs)) ≡ all_bytes xs ++ (all_bytes ys ++ all_bytes zs)
-three_bytes xs ys zs = flat_map-append bytes_of xs (ys ++ zs) ∙ ap (λ bytes. all_bytes xs ++ bytes) (flat_map-append bytes_of ys zs)
+three_bytes xs ys zs = flat_map-append bytes_of xs (ys ++ zs) ∙ ap (λ bytes. all_bytes xs ++ bytes)
+    (flat_map-append bytes_of ys zs)
 
-pub around_bytes : (ss : List Stretch) (i k : ℕ) → i ≤ k → all_bytes ss ≡ all_bytes (take i ss) ++ (all_bytes (take (k - i) (drop i ss)) ++ all_bytes (drop k ss))
+pub around_bytes : (ss : List Stretch) (i k : ℕ) → i ≤ k → all_bytes ss ≡ all_bytes (take i ss) ++
+    (all_bytes (take (k - i) (drop i ss)) ++ all_bytes (drop k ss))
 around_bytes ss i k h = ap all_bytes (around ss i k h) ∙ three_bytes (take i ss) (take (k - i) (drop i ss)) (drop k ss)
 
 -- what is put in the place of a part
-pub put_bytes : (ss list next : List Stretch) (i k : ℕ) → next ≡ splice ss i k list → all_bytes next ≡ all_bytes (take i ss) ++ (all_bytes list ++ all_bytes (drop k ss))
+pub put_bytes : (ss list next : List Stretch) (i k : ℕ) → next ≡ splice ss i k list → all_bytes next ≡ all_bytes
+    (take i ss) ++ (all_bytes list ++ all_bytes (drop k ss))
 put_bytes ss list next i k e = ap all_bytes e ∙ three_bytes (take i ss) list (drop k ss)
 
 -- each of a part, and of what is put in its place
-pub each_taken : {X : Type 0} (p : X → Bool) (xs : List X) (i : ℕ) → list_all p xs ≡ true → list_all p (take i xs) ≡ true
+pub each_taken : {X : Type 0} (p : X → Bool) (xs : List X) (i : ℕ) → list_all p xs ≡ true → list_all p (take i xs)
+    ≡ true
 each_taken p xs i h = all_front p (take i xs) (drop i xs) (subst (λ ys. list_all p ys ≡ true) (halves xs i) h)
 
-pub each_dropped : {X : Type 0} (p : X → Bool) (xs : List X) (i : ℕ) → list_all p xs ≡ true → list_all p (drop i xs) ≡ true
+pub each_dropped : {X : Type 0} (p : X → Bool) (xs : List X) (i : ℕ) → list_all p xs ≡ true → list_all p (drop i xs)
+    ≡ true
 each_dropped p xs i h = all_behind p (take i xs) (drop i xs) (subst (λ ys. list_all p ys ≡ true) (halves xs i) h)
 
-pub each_put : (ss list next : List Stretch) (i k : ℕ) → next ≡ splice ss i k list → list_all is_stretch ss ≡ true → list_all is_stretch list ≡ true → list_all is_stretch next ≡ true
+pub each_put : (ss list next : List Stretch) (i k : ℕ) → next ≡ splice ss i k list → list_all is_stretch ss ≡ true
+    → list_all is_stretch list ≡ true → list_all is_stretch next ≡ true
 each_put ss list next i k e h l =
     subst (λ xs. list_all is_stretch xs ≡ true) (sym e)
-    (all_append is_stretch (take i ss) (list ++ drop k ss) (each_taken is_stretch ss i h) (all_append is_stretch list (drop k ss) l (each_dropped is_stretch ss k h)))
+    (all_append is_stretch (take i ss) (list ++ drop k ss) (each_taken is_stretch ss i h)
+    (all_append is_stretch list (drop k ss) l (each_dropped is_stretch ss k h)))
 
 -- all pass a test, or none
 pub filter_all : (p : Unsaved → Bool) (xs : List Unsaved) → list_all p xs ≡ true → filter p xs ≡ xs
 filter_all p [] h = refl
-filter_all p (x ∷ xs) h = let e : p x ≡ true = and_left _ _ h in rw e (ap (λ ys. x ∷ ys) (filter_all p xs (and_right _ _ h)))
+filter_all p (x ∷ xs) h = let e : p x ≡ true = and_left _ _ h in rw e
+    (ap (λ ys. x ∷ ys) (filter_all p xs (and_right _ _ h)))
 
 pub filter_none : (p : Unsaved → Bool) (xs : List Unsaved) → list_all (λ x. not (p x)) xs ≡ true → filter p xs ≡ []
 filter_none p [] h = refl
-filter_none p (x ∷ xs) h = let e : p x ≡ false = not_true (p x) (and_left _ _ h) in rw e (filter_none p xs (and_right _ _ h))
+filter_none p (x ∷ xs) h = let e : p x ≡ false = not_true (p x) (and_left _ _ h) in rw e
+    (filter_none p xs (and_right _ _ h))
   where
     not_true : (b : Bool) → not b ≡ true → b ≡ false
     not_true true h = sym h
     not_true false h = refl
 
 -- none stands at a position above all, or below all
-none_above : (xs : List Unsaved) (from at : ℕ) → list_all (λ byte. nat_lt byte.at from) xs ≡ true → from ≤ at → unsaved_at xs at ≡ None
+none_above : (xs : List Unsaved) (from at : ℕ) → list_all (λ byte. nat_lt byte.at from) xs ≡ true → from ≤ at
+    → unsaved_at xs at ≡ None
 none_above [] from at h o = refl
 none_above (x ∷ xs) from at h o =
     let l : nat_lt x.at from ≡ true = and_left _ _ h in
     let e : (x.at == at) ≡ false = grind (arith, common_steps, l, o) in
     rw e (none_above xs from at (and_right _ _ h) o)
 
-none_below : (xs : List Unsaved) (to at : ℕ) → list_all (λ byte. nat_le to byte.at) xs ≡ true → at < to → unsaved_at xs at ≡ None
+none_below : (xs : List Unsaved) (to at : ℕ) → list_all (λ byte. nat_le to byte.at) xs ≡ true → at < to → unsaved_at
+    xs at ≡ None
 none_below [] to at h o = refl
 none_below (x ∷ xs) to at h o =
     let l : nat_le to x.at ≡ true = and_left _ _ h in
@@ -214,15 +259,20 @@ or_nothing None = refl
 or_nothing (Some byte) = refl
 
 -- the same byte at each position is read alike
-over_alike : (kept : List ℕ) (xs ys : List Unsaved) (at n : ℕ) → ((p : ℕ) → at ≤ p → p < at + n → unsaved_at xs p ≡ unsaved_at ys p) → bytes_over kept xs at n ≡ bytes_over kept ys at n
+over_alike : (kept : List ℕ) (xs ys : List Unsaved) (at n : ℕ)
+    → ((p : ℕ) → at ≤ p → p < at + n → unsaved_at xs p ≡ unsaved_at ys p) → bytes_over kept xs at n ≡ bytes_over kept
+    ys at n
 over_alike kept xs ys at zero f = refl
 over_alike kept xs ys at (suc n) f =
-    ap (λ o. option_map_or (λ byte. byte.value) o (byte_at kept at) ∷ bytes_over kept xs (suc at) n) (f at (omega arith) (omega arith))
-    ∙ ap (λ bytes. byte_over kept ys at ∷ bytes) (over_alike kept xs ys (suc at) n (λ p l u. f p (omega (arith, l)) (omega (arith, u))))
+    ap (λ o. option_map_or (λ byte. byte.value) o (byte_at kept at) ∷ bytes_over kept xs (suc at) n)
+    (f at (omega arith) (omega arith))
+    ∙ ap (λ bytes. byte_over kept ys at ∷ bytes) (over_alike kept xs ys (suc at) n
+    (λ p l u. f p (omega (arith, l)) (omega (arith, u))))
 
 -- the bytes of a span are read by what is unsaved in the part
 pub part_shows : (kept : List ℕ) (ss : List Stretch) (from to i k : ℕ) → IsCut ss from to i k
-    → bytes_over kept (all_bytes (take (k - i) (drop i ss))) from (to - from) ≡ bytes_over kept (all_bytes ss) from (to - from)
+    → bytes_over kept (all_bytes (take (k - i) (drop i ss))) from (to - from) ≡ bytes_over kept (all_bytes ss) from
+    (to - from)
 part_shows kept ss from to i k cut =
     let a = all_bytes (take i ss) in let m = all_bytes (take (k - i) (drop i ss)) in let b = all_bytes (drop k ss) in
     over_alike kept m (all_bytes ss) from (to - from) (λ p l u.
@@ -238,8 +288,10 @@ map_same : {X : Type 0} (xs : List X) → map (λ y. y) xs ≡ xs
 map_same [] = refl
 map_same (x ∷ xs) = ap (λ ys. x ∷ ys) (map_same xs)
 
-pub yields_all : {Z : Type 0} (s : IntoIter Stretch Z) (all xs : List Stretch) → into_iter_items s ≡ all → into_iter_len s ≡ length all → Drains into_iter_steps s xs → xs ≡ all
-yields_all s all xs e f d = sym (map_same xs) ∙ items_from_drains xs (d.1.0, d.1.1, λ _. (d.0, d.1.2)) (YieldsList-from_vec all e f)
+pub yields_all : {Z : Type 0} (s : IntoIter Stretch Z) (all xs : List Stretch) → into_iter_items s ≡ all
+    → into_iter_len s ≡ length all → Drains into_iter_steps s xs → xs ≡ all
+yields_all s all xs e f d = sym (map_same xs) ∙ items_from_drains xs (d.1.0, d.1.1, λ _. (d.0, d.1.2))
+    (YieldsList-from_vec all e f)
 
 -- below a lesser position, and from a later one on
 lt_later : (a b x : ℕ) → a ≤ b → nat_lt x a ≡ true → not (nat_le b x) ≡ true
@@ -249,7 +301,8 @@ le_later : (a b x : ℕ) → a ≤ b → nat_le b x ≡ true → not (nat_lt x a
 le_later a b x o h = let e : nat_lt x a ≡ false = grind (arith, common_steps, o, h) in rw e refl
 
 -- a part of the stretches gives way to what is written
-pub cut_written : (ss list next : List Stretch) (host : HostId) (from : ℕ) (bytes : List ℕ) (i k : ℕ) → IsCut ss from (from + length bytes) i k
+pub cut_written : (ss list next : List Stretch) (host : HostId) (from : ℕ) (bytes : List ℕ) (i k : ℕ) → IsCut ss from
+    (from + length bytes) i k
     → all_bytes list ≡ unsaved_after (all_bytes (take (k - i) (drop i ss))) host from bytes → next ≡ splice ss i k list
     → all_bytes next ≡ unsaved_after (all_bytes ss) host from bytes
 cut_written ss list next host from bytes i k cut w e =
@@ -260,13 +313,16 @@ cut_written ss list next host from bytes i k cut w e =
     let below : filter low (a ++ (m ++ b)) ≡ a ++ filter low m
     = filter-append low a (m ++ b) ∙ ap (λ ys. ys ++ filter low (m ++ b)) (filter_all low a cut.below)
     ∙ ap (λ ys. a ++ ys) (filter-append low m b
-    ∙ ap (λ ys. filter low m ++ ys) (filter_none low b (all_implied high (λ byte. not (low byte)) (λ byte h. le_later from to byte.at (omega arith) h) b cut.above))
+    ∙ ap (λ ys. filter low m ++ ys) (filter_none low b (all_implied high (λ byte. not (low byte))
+    (λ byte h. le_later from to byte.at (omega arith) h) b cut.above))
     ∙ append-nil (filter low m)) in
     let above : filter high (a ++ (m ++ b)) ≡ filter high m ++ b
     = filter-append high a (m ++ b)
-    ∙ ap (λ ys. ys ++ filter high (m ++ b)) (filter_none high a (all_implied low (λ byte. not (high byte)) (λ byte h. lt_later from to byte.at (omega arith) h) a cut.below))
+    ∙ ap (λ ys. ys ++ filter high (m ++ b)) (filter_none high a
+    (all_implied low (λ byte. not (high byte)) (λ byte h. lt_later from to byte.at (omega arith) h) a cut.below))
     ∙ filter-append high m b ∙ ap (λ ys. filter high m ++ ys) (filter_all high b cut.above) in
-    let whole : unsaved_after (all_bytes ss) host from bytes ≡ (a ++ filter low m) ++ written host from bytes ++ (filter high m ++ b)
+    let whole : unsaved_after (all_bytes ss) host from bytes ≡ (a ++ filter low m) ++ written host from bytes ++
+    (filter high m ++ b)
     = ap (λ xs. unsaved_after xs host from bytes) (around_bytes ss i k cut.ordered)
     ∙ ap (λ ys. ys ++ written host from bytes ++ filter high (a ++ (m ++ b))) below
     ∙ ap (λ ys. (a ++ filter low m) ++ written host from bytes ++ ys) above in
@@ -277,7 +333,9 @@ cut_written ss list next host from bytes i k cut w e =
     regroup a x w y b = simp append_assoc
 
 -- and the stretches stay as they must be
-pub write_stands : (ss next : List Stretch) (host : HostId) (from : ℕ) (bytes : List ℕ) → are_stretches ss ≡ true → all_bytes next ≡ unsaved_after (all_bytes ss) host from bytes
+pub write_stands : (ss next : List Stretch) (host : HostId) (from : ℕ) (bytes : List ℕ) → are_stretches ss ≡ true
+    → all_bytes next ≡ unsaved_after (all_bytes ss) host from bytes
     → list_all is_stretch next ≡ true → are_stretches next ≡ true
 write_stands ss next host from bytes h e k =
-    and_both _ _ k (subst (λ xs. positions_rise xs ≡ true) (sym e) (rise_written (all_bytes ss) host from bytes (and_right _ _ h)))
+    and_both _ _ k (subst (λ xs. positions_rise xs ≡ true) (sym e)
+    (rise_written (all_bytes ss) host from bytes (and_right _ _ h)))

@@ -17,5 +17,6 @@ put_at-requires c =
 pub returns-clause-ok : goal.returns-clause-ok
 returns-clause-ok c =
     let old = c.args.bytes.now in let part = c.args.part.now in let at = c.args.at in let n = c.min-inside.result in
-    c.put_at.ensures ∙ ap (λ bytes. replaced bytes at (take n part)) (c.in_ok-extend.ensures.ok ∙ ap (λ ys. old ++ ys) (rest_all part n))
+    c.put_at.ensures ∙ ap (λ bytes. replaced bytes at (take n part))
+    (c.in_ok-extend.ensures.ok ∙ ap (λ ys. old ++ ys) (rest_all part n))
     ∙ replaced_whole old part at n c.requires (omega (arith, c.min-inside.ensures, c.len.ensures))

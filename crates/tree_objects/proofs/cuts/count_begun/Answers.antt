@@ -6,5 +6,6 @@ use Rattle.tree_objects.proofs.cuts.count_begun.Goals as goal
 pub returns-clause-above : goal.returns-clause-above
 returns-clause-above c =
     let ss = c.args.stretches.now in let at = c.args.at in let i = c.partition_point.result in
-    let point = IsPartitionPoint-from_clause (λ stretch. nat_lt stretch.from at) ss i c.partition_point.ensures.partitioned (begun_first at ss c.requires) (λ a r f' q. search rules) in
+    let point = IsPartitionPoint-from_clause (λ stretch. nat_lt stretch.from at) ss i
+    c.partition_point.ensures.partitioned (begun_first at ss c.requires) (λ a r f' q. search rules) in
     above_of at ss i point.1

@@ -6,5 +6,6 @@ use Rattle.tree_objects.proofs.cuts.count_ended.Goals as goal
 pub returns-clause-below : goal.returns-clause-below
 returns-clause-below c =
     let ss = c.args.stretches.now in let at = c.args.at in let i = c.partition_point.result in
-    let point = IsPartitionPoint-from_clause (λ stretch. nat_lt (stretch.from + length stretch.bytes) at) ss i c.partition_point.ensures.partitioned (ended_first at ss c.requires) (λ a r f' q. search rules) in
+    let point = IsPartitionPoint-from_clause (λ stretch. nat_lt (stretch.from + length stretch.bytes) at) ss i
+    c.partition_point.ensures.partitioned (ended_first at ss c.requires) (λ a r f' q. search rules) in
     below_of at ss i point.0

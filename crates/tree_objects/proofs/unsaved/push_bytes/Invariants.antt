@@ -4,4 +4,5 @@ use Rattle.tree_objects.proofs.unsaved.push_bytes.Given as goal
 
 -- what is there and what is left
 abbrev pub invariant-loop-i : goal.invariant-loop-i
-invariant-loop-i l = l.list ++ written l.host (l.from + l.i) (drop l.i l.bytes) ≡ l.fn.list ++ written l.host l.from l.bytes
+invariant-loop-i l = l.list ++ written l.host (l.from + l.i) (drop l.i l.bytes) ≡ l.fn.list ++ written l.host l.from
+    l.bytes

@@ -8,16 +8,21 @@ use Rattle.tree_objects.proofs.unsaved.write_over.Goals as goal
 pub written_over-requires-clause-each : goal.written_over-requires-clause-each
 written_over-requires-clause-each c =
     let ss = c.as_slice.result.now in let i = c.args.cut.from in let k = c.args.cut.to in
-    let each : list_all is_stretch ss ≡ true = subst (λ xs. list_all is_stretch xs ≡ true) (sym c.as_slice.ensures) c.requires.each in
+    let each : list_all is_stretch ss ≡ true = subst (λ xs. list_all is_stretch xs ≡ true) (sym c.as_slice.ensures)
+    c.requires.each in
     each_taken is_stretch (drop i ss) (k - i) (each_dropped is_stretch ss i each)
 
 pub returns-clause-ok : goal.returns-clause-ok
 returns-clause-ok c =
-    let host = c.args.host in let from = c.args.from in let bytes = c.args.bytes.now in let i = c.args.cut.from in let k = c.args.cut.to in
+    let host = c.args.host in let from = c.args.from in let bytes = c.args.bytes.now in let i = c.args.cut.from in
+    let k = c.args.cut.to in
     let ss = c.args.stretches.now in
-    let made = c.in_ok-written.ensures.value ∙ ap (λ xs. unsaved_after (all_bytes (take (k - i) (drop i xs))) host from bytes) c.as_slice.ensures in
-    cut_written ss c.in_ok-written.written.items c.put_between.new.stretches host from bytes i k c.requires.cut made c.in_ok-put_between.ensures.ok
+    let made = c.in_ok-written.ensures.value ∙ ap (λ xs. unsaved_after (all_bytes (take (k - i) (drop i xs))) host
+    from bytes) c.as_slice.ensures in
+    cut_written ss c.in_ok-written.written.items c.put_between.new.stretches host from bytes i k c.requires.cut made
+    c.in_ok-put_between.ensures.ok
 
 pub returns-clause-each : goal.returns-clause-each
 returns-clause-each c =
-    each_put c.args.stretches.now c.in_ok-written.written.items c.put_between.new.stretches c.args.cut.from c.args.cut.to c.in_ok-put_between.ensures.ok c.requires.each c.in_ok-written.ensures.each
+    each_put c.args.stretches.now c.in_ok-written.written.items c.put_between.new.stretches c.args.cut.from
+    c.args.cut.to c.in_ok-put_between.ensures.ok c.requires.each c.in_ok-written.ensures.each

@@ -7,4 +7,5 @@ pub invariant_of-self : goal.invariant_of-self
 invariant_of-self c = forget_stands c.args.host c.self.inside.stretches _ c.drop_own.ensures c.self.invariant
 
 pub returns : goal.returns
-returns c = ap all_bytes c.drop_own.ensures ∙ own_gone c.args.host c.self.inside.stretches ∙ ap (filter (λ byte. not (byte.writer.0 == c.args.host.0))) c.self.view_is
+returns c = ap all_bytes c.drop_own.ensures ∙ own_gone c.args.host c.self.inside.stretches ∙ ap
+    (filter (λ byte. not (byte.writer.0 == c.args.host.0))) c.self.view_is
