@@ -12,7 +12,7 @@ use Rattle.std.proofs.Math.Seq.{drop-nil}
 use Rattle.std.proofs.lemmas.List.{append-nil}
 use Rattle.std.proofs.lemmas.List.Elements.{filter-append}
 use Rattle.std.proofs.lemmas.List.Folds.{find-append}
-use Rattle.std.proofs.lemmas.List.Sorted.{IsPartitionedBy-ltb}
+use Rattle.std.proofs.lemmas.List.Sorted.{IsPartitionedBy-leb, IsPartitionedBy-ltb}
 use Rattle.std.proofs.lemmas.Iterator.{items_from_drains}
 use Rattle.std.proofs.lemmas.Iterator.Adapters.{YieldsList-from_vec}
 use Rattle.std.proofs.lemmas.Grind.{common_steps, flat_map-append}
@@ -123,24 +123,24 @@ end_in_turn (s ∷ ss) (suc i) zero d k h o l = absurd (omega (arith, o))
 end_in_turn (s ∷ ss) (suc i) (suc j) d k h o l = end_in_turn ss i j d (and_right _ _ k)
     (rise_behind (bytes_of s) (all_bytes ss) h) (omega (arith, o)) (omega (arith, l))
 
--- those that end below a position stand before the others
-pub ended_first : (at : ℕ) (ss : List Stretch) → are_stretches ss ≡ true → IsPartitionedBy
-    (λ stretch. nat_lt (stretch.from + length stretch.bytes) at) ss
-ended_first at ss h = IsPartitionedBy-ltb (λ stretch. stretch.from + length stretch.bytes) ss at
+-- those that end at a position or before it stand before the others
+pub ended_first : (at : ℕ) (ss : List Stretch) → are_stretches ss ≡ true
+    → IsPartitionedBy (λ stretch. nat_le (stretch.from + length stretch.bytes) at) ss
+ended_first at ss h = IsPartitionedBy-leb (λ stretch. stretch.from + length stretch.bytes) ss at
     (λ i j d o l. end_in_turn ss i j d (and_left _ _ h) (and_right _ _ h) o l)
 
 -- and all their bytes stand below it
-pub below_of : (at : ℕ) (ss : List Stretch) (i : ℕ) → AllWithin
-    (λ stretch. nat_lt (stretch.from + length stretch.bytes) at ≡ true) ss 0 i → list_all (λ byte. nat_lt byte.at at)
-    (all_bytes (take i ss)) ≡ true
+pub below_of : (at : ℕ) (ss : List Stretch) (i : ℕ)
+    → AllWithin (λ stretch. nat_le (stretch.from + length stretch.bytes) at ≡ true) ss 0 i
+    → list_all (λ byte. nat_lt byte.at at) (all_bytes (take i ss)) ≡ true
 below_of at ss zero w = refl
 below_of at [] (suc i) w = refl
 below_of at (s ∷ ss) (suc i) w =
-    let here : nat_lt (s.from + length s.bytes) at ≡ true = w zero s (omega arith) (omega arith) in
+    let here : nat_le (s.from + length s.bytes) at ≡ true = w zero s (omega arith) (omega arith) in
     let low : s.from + length s.bytes ≤ at = grind (arith, common_steps, here) in
     all_append (λ byte. nat_lt byte.at at) (bytes_of s) (all_bytes (take i ss))
-    (written_below s.writer s.from at s.bytes low) (below_of at ss i
-    (λ j d l u. w (suc j) d (omega arith) (omega (arith, u))))
+    (written_below s.writer s.from at s.bytes low)
+    (below_of at ss i (λ j d l u. w (suc j) d (omega arith) (omega (arith, u))))
 
 -- the others have no byte below it
 pub above_of : (end : ℕ) (ss : List Stretch) (i : ℕ) → AllWithin (λ stretch. nat_lt stretch.from end ≡ false) ss i
@@ -176,6 +176,20 @@ cut_found ss from to low high last a b e below above =
       below = below;
       above = above_later (λ byte. nat_le to byte.at) ss high last (omega (arith, e)) above;
     }
+
+-- a part for a span is one for a span that begins later
+less_later : (x low from : ℕ) → low ≤ from → nat_lt x low ≡ true → nat_lt x from ≡ true
+less_later x low from o h = grind (arith, common_steps, o, h)
+
+pub cut_later : (ss : List Stretch) (low from to first last : ℕ) → low ≤ from → IsCut ss low to first last
+    → IsCut ss from to first last
+cut_later ss low from to first last o cut = record {
+  ordered = cut.ordered;
+  inside = cut.inside;
+  below = all_implied (λ byte. nat_lt byte.at low) (λ byte. nat_lt byte.at from)
+      (λ byte h. less_later byte.at low from o h) (all_bytes (take first ss)) cut.below;
+  above = cut.above;
+}
 
 -- the front of a list and the rest of it
 halves : {X : Type 0} (xs : List X) (i : ℕ) → xs ≡ take i xs ++ drop i xs

@@ -172,6 +172,34 @@ written_split host from (x ∷ xs) (suc n) =
     ap (λ ys. first ∷ ys) (written_split host (from + 1) xs n ∙ ap
     (λ k. written host (from + 1) (take n xs) ++ written host k (drop n xs)) z)
 
+-- one piece more of what is written
+pub piece_added : (host : HostId) (from : ℕ) (bytes : List ℕ) (done next : ℕ) (before after all : List Unsaved)
+    → done ≤ next → after ≡ before ++ written host (from + done) (take (next - done) (drop done bytes))
+    → before ++ written host (from + done) (drop done bytes) ≡ all
+    → after ++ written host (from + next) (drop next bytes) ≡ all
+piece_added host from bytes done next before after all o e was =
+    let rest = drop done bytes in let n = next - done in
+    let piece = written host (from + done) (take n rest) in
+    let z : from + done + n ≡ from + next = omega (arith, o) in
+    let y : done + n ≡ next = omega (arith, o) in
+    let split : written host (from + done) rest ≡ piece ++ written host (from + next) (drop next bytes)
+    = written_split host (from + done) rest n ∙ ap (λ k. piece ++ written host k (drop n rest)) z
+    ∙ ap (λ ys. piece ++ written host (from + next) ys) (sym (drop_more bytes done n) ∙ ap (λ k. drop k bytes) y) in
+    ap (λ ys. ys ++ written host (from + next) (drop next bytes)) e
+    ∙ append_assoc before piece (written host (from + next) (drop next bytes))
+    ∙ ap (λ ys. before ++ ys) (sym split) ∙ was
+
+-- none of them yet, and all
+pub none_written : (host : HostId) (from : ℕ) (bytes : List ℕ) (list : List Unsaved)
+    → list ++ written host (from + 0) (drop 0 bytes) ≡ list ++ written host from bytes
+none_written host from bytes list =
+    let z : from + 0 ≡ from = omega arith in ap (λ k. list ++ written host k bytes) z
+
+pub all_written : (host : HostId) (from : ℕ) (bytes : List ℕ) (done : ℕ) (list all : List Unsaved)
+    → length bytes ≤ done → list ++ written host (from + done) (drop done bytes) ≡ all → list ≡ all
+all_written host from bytes done list all h e =
+    sym (append-nil list) ∙ ap (λ ys. list ++ written host (from + done) ys) (sym (drop_all bytes done h)) ∙ e
+
 -- one part of a stretch more is added to the list that it belongs to
 pub part_added : (test : Unsaved → Bool) (host : HostId) (from : ℕ) (bytes : List ℕ) (done next to : ℕ)
     (before after : List Unsaved) (all : List Unsaved) (b : Bool)

@@ -135,20 +135,21 @@ pub record Lone (ss : List Stretch) (host : HostId) (from i k : ℕ) (x : Stretc
   pub part : take (k - i) (drop i ss) ≡ get_or ss i x ∷ []
 
 -- where it stands, and what is known of it
-pub lone_of : (ss : List Stretch) (host : HostId) (from i k : ℕ) (x : Stretch) → i ≤ k → k ≤ length ss
-    → ((length (take (k - i) (drop i ss)) == 1) && list_all (reaches host from) (take (k - i) (drop i ss))) ≡ true
+pub lone_of : (ss : List Stretch) (host : HostId) (from to i k : ℕ) (x : Stretch) → i ≤ k → k ≤ length ss
+    → ((length (take (k - i) (drop i ss)) == 1) && list_all (reaches host from to) (take (k - i) (drop i ss))) ≡ true
     → Lone ss host from i k x
-lone_of ss host from i k x o w h =
+lone_of ss host from to i k x o w h =
     let part = take (k - i) (drop i ss) in
     let (next, inside) = lone_inside ss i k _ o w h in
     let n : k - i ≡ suc zero = omega (arith, next) in
     let is : part ≡ get_or ss i x ∷ [] = ap (λ m. take m (drop i ss)) n ∙ ap (take (suc zero))
     (drop-cons ss i x inside) in
-    let holds : reaches host from (get_or ss i x) ≡ true = and_left _ _
-    (subst (λ xs. list_all (reaches host from) xs ≡ true) is (and_right _ _ h)) in
-    let writer : ((get_or ss i x).writer.0 == host.0) ≡ true = and_left _ _ (and_left _ _ holds) in
-    let low : nat_le (get_or ss i x).from from ≡ true = and_right _ _ (and_left _ _ holds) in
-    let high : nat_le from ((get_or ss i x).from + length (get_or ss i x).bytes) ≡ true = and_right _ _ holds in
+    let all : reaches host from to (get_or ss i x) ≡ true = and_left _ _
+    (subst (λ xs. list_all (reaches host from to) xs ≡ true) is (and_right _ _ h)) in
+    let writer : ((get_or ss i x).writer.0 == host.0) ≡ true = and_left _ _ (and_left _ _ (and_left _ _ all)) in
+    let low : nat_le (get_or ss i x).from from ≡ true = and_right _ _ (and_left _ _ (and_left _ _ all)) in
+    let high : nat_le from ((get_or ss i x).from + length (get_or ss i x).bytes) ≡ true
+    = and_right _ _ (and_left _ _ all) in
     record {
       next = next;
       inside = inside;

@@ -1,10 +1,11 @@
 -- Stretches of unsaved bytes.
-use Rattle.std.specs.Prelude.{ℕ, ◌+◌, ◌-◌, ◌==◌, nat_lt, nat_le, Bool, ◌&&◌, List, ◌++◌, length, take, drop, flat_map}
+use Rattle.std.specs.Prelude.{ℕ, ◌+◌, ◌-◌, ◌==◌, nat_lt, nat_le, max, Bool, ◌&&◌, List, ◌++◌, length, take, drop, flat_map}
 use Rattle.std.specs.List.{list_all}
 use Rattle.base_types.specs.declared.limits.TheConstants.{FILE_BYTES_MAX}
 use Rattle.base_types.specs.declared.ids.HostId.{HostId}
 use Rattle.tree_objects.specs.declared.content.Unsaved.{Unsaved}
 use Rattle.tree_objects.specs.declared.stretch.Stretch.{Stretch}
+use Rattle.tree_objects.specs.declared.stretch.TheConstants.{PIECE_BYTES}
 use Rattle.tree_objects.specs.Positions.{positions_rise, written}
 
 -- the bytes of a stretch, each with its position
@@ -27,11 +28,12 @@ are_stretches stretches = list_all is_stretch stretches && positions_rise (all_b
 abbrev pub laid : List ℕ → ℕ → List ℕ → List ℕ
 laid bytes at part = take at bytes ++ (take (length bytes - at) part ++ drop (at + length part) bytes)
 
--- whether a host may go on with a stretch from a position on: the stretch is the host's, and the position lies in it or
--- directly behind it
-abbrev pub reaches : HostId → ℕ → Stretch → Bool
-reaches host from stretch =
+-- whether a host may go on with a stretch by a write from a position on and before another: the stretch is the host's,
+-- the write begins in it or directly behind it, and leaves it no longer than a piece, or than it was
+abbrev pub reaches : HostId → ℕ → ℕ → Stretch → Bool
+reaches host from to stretch =
     (stretch.writer.0 == host.0) && nat_le stretch.from from && nat_le from (stretch.from + length stretch.bytes)
+    && nat_le to (max (stretch.from + length stretch.bytes) (stretch.from + PIECE_BYTES))
 
 -- bytes with others in their place from a place on, which may go on behind the end
 abbrev pub replaced : List ℕ → ℕ → List ℕ → List ℕ

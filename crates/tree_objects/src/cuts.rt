@@ -15,13 +15,13 @@ pub(crate) struct Cut {
     pub to: usize,
 }
 
-// How many of the stretches end below a position.
+// How many of the stretches end at a position or before it.
 fn count_ended(stretches: &[Stretch], at: usize) -> usize
     requires { are_stretches stretches.now ≡ true }
     ensures within { result ≤ length stretches.now }
     ensures below { list_all (λ byte. nat_lt byte.at at) (all_bytes (take result stretches.now)) ≡ true }
 {
-    stretches.partition_point(|stretch| end(stretch) < at)
+    stretches.partition_point(|stretch| end(stretch) <= at)
 }
 
 // How many of the stretches begin below a position.
@@ -33,7 +33,7 @@ fn count_begun(stretches: &[Stretch], at: usize) -> usize
     stretches.partition_point(|stretch| (stretch.from as usize) < at)
 }
 
-/// A part of the stretches in which all bytes of a span stand. One that ends where the span begins belongs to it.
+/// A part of the stretches in which all bytes of a span stand.
 pub(crate) fn cut_at(stretches: &[Stretch], from: usize, to: usize) -> Cut
     requires { are_stretches stretches.now ≡ true }
     ensures { IsCut stretches.now from to result.from result.to }

@@ -11,6 +11,9 @@ use crate::content::Unsaved;
 use base_types::{HostId, Items, NoMemory, Plain};
 use std::alloc::Global;
 
+/// How many bytes a stretch has at most; a longer write makes several.
+pub const PIECE_BYTES: usize = 1_024;
+
 /// Bytes that a host has written at positions of a file that follow one another, and not stored yet.
 pub struct Stretch {
     /// The position of the first byte.
@@ -48,11 +51,14 @@ pub(crate) fn end(stretch: &Stretch) -> usize
     stretch.from as usize + stretch.bytes.as_slice().len()
 }
 
-/// Whether a host may go on with a stretch from a position on, which lies in it or directly behind it.
-pub(crate) fn reaches(stretch: &Stretch, host: HostId, from: u32) -> bool
-    ensures { result ≡ reaches host from stretch.now }
+/// Whether a host may go on with a stretch by a write from a position on and before another: it begins in the stretch or
+/// directly behind it, and leaves it no longer than a piece, or than it was.
+pub(crate) fn reaches(stretch: &Stretch, host: HostId, from: u32, to: usize) -> bool
+    ensures { result ≡ reaches host from to stretch.now }
 {
-    stretch.writer == host && stretch.from <= from && from as usize <= end(stretch)
+    let last = end(stretch);
+    let room = stretch.from as usize + PIECE_BYTES;
+    stretch.writer == host && stretch.from <= from && from as usize <= last && to <= last.max(room)
 }
 
 /// Writes bytes in a stretch from a position on, which it reaches.
@@ -81,9 +87,29 @@ pub(crate) fn first_byte(stretch: &Stretch) -> Option<Unsaved>
     }
 }
 
-/// Adds the bytes that a host writes from a position on, where there are some.
-#[tactic(auto, using(crate::proofs::Pieces::one_more, crate::proofs::Pieces::each_more, crate::proofs::Pieces::none_more, crate::proofs::Pieces::made_of))]
+/// Adds the bytes that a host writes from a position on, in pieces.
 pub(crate) fn push_written(
+    list: &mut Vec<Stretch>,
+    host: HostId,
+    from: u32,
+    bytes: &[u8],
+) -> Result<(), NoMemory>
+    requires { from + length bytes.now ≤ FILE_BYTES_MAX }
+    ensures bytes { OnOk result (all_bytes list.new.items ≡ all_bytes list.old.items ++ written host from bytes.now) }
+    ensures each { OnOk result (list_all is_stretch list.old.items ≡ true → list_all is_stretch list.new.items ≡ true) }
+{
+    let mut done = 0;
+    while done < bytes.len() {
+        let next = bytes.len().min(done + PIECE_BYTES);
+        push_piece(list, host, from + done as u32, &bytes[done..next])?;
+        done = next;
+    }
+    Ok(())
+}
+
+// Adds a stretch of the bytes that a host writes from a position on, where there are some.
+#[tactic(auto, using(crate::proofs::Pieces::one_more, crate::proofs::Pieces::each_more, crate::proofs::Pieces::none_more, crate::proofs::Pieces::made_of))]
+fn push_piece(
     list: &mut Vec<Stretch>,
     host: HostId,
     from: u32,

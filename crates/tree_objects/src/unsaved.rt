@@ -3,7 +3,6 @@ ghost use Rattle.std.specs.Prelude.{IfOk, OnOk, OnErr};
 ghost use Rattle.std.specs.List.{list_all};
 ghost use Rattle.base_types.specs.declared.limits.TheConstants.{FILE_BYTES_MAX};
 ghost use Rattle.tree_objects.specs.Changes.{unsaved_after};
-ghost use Rattle.tree_objects.specs.Cuts.{IsCut};
 ghost use Rattle.tree_objects.specs.Files.{bytes_over};
 ghost use Rattle.tree_objects.specs.Positions.{written};
 ghost use Rattle.tree_objects.specs.Stores.{is_stored};
@@ -11,7 +10,7 @@ ghost use Rattle.tree_objects.specs.Stretches.{all_bytes, is_stretch, are_stretc
 
 use crate::bytes::{bytes_over, lengthen, put_each};
 use crate::content::Unsaved;
-use crate::cuts::{Cut, cut_at, cut_of, put_between};
+use crate::cuts::{cut_at, cut_of, put_between};
 use crate::splits::split_stored;
 use crate::stretch::{
     Stretch, first_byte, push_above, push_below, push_written, reaches, write_in,
@@ -211,45 +210,45 @@ fn put_written(
     ensures err { OnErr result (stretches.new ≡ stretches.old) }
 {
     let list = stretches.as_slice();
-    let cut = cut_at(list, from as usize, from as usize + bytes.len());
-    if takes(&list[cut.from..cut.to], host, from) {
-        write_in(stretches.get_mut(cut.from), from, bytes)
+    let to = from as usize + bytes.len();
+    let near = cut_at(list, (from as usize).saturating_sub(1), to);
+    if takes(&list[near.from..near.to], host, from, to) {
+        write_in(stretches.get_mut(near.from), from, bytes)
     } else {
-        write_over(stretches, cut, host, from, bytes)
+        write_over(stretches, host, from, bytes)
     }
 }
 
-// Whether a part is one stretch that a host may go on with from a position on.
-fn takes(part: &[Stretch], host: HostId, from: u32) -> bool
-    ensures { result ≡ ((length part.now == 1) && list_all (reaches host from) part.now) }
+// Whether a part is one stretch that a host may go on with by a write from a position on and before another.
+fn takes(part: &[Stretch], host: HostId, from: u32, to: usize) -> bool
+    ensures { result ≡ ((length part.now == 1) && list_all (reaches host from to) part.now) }
 {
-    part.len() == 1 && each_reaches(part, host, from)
+    part.len() == 1 && each_reaches(part, host, from, to)
 }
 
-fn each_reaches(part: &[Stretch], host: HostId, from: u32) -> bool
-    ensures { result ≡ list_all (reaches host from) part.now }
+fn each_reaches(part: &[Stretch], host: HostId, from: u32, to: usize) -> bool
+    ensures { result ≡ list_all (reaches host from to) part.now }
 {
-    part.iter().all(|stretch| reaches(stretch, host, from))
+    part.iter().all(|stretch| reaches(stretch, host, from, to))
 }
 
-// Puts the bytes that a host writes from a position on in the place of a part of the stretches.
+// Puts the bytes that a host writes from a position on among those of stretches, as stretches of their own.
 fn write_over(
     stretches: &mut Items<Stretch>,
-    cut: Cut,
     host: HostId,
     from: u32,
     bytes: &[u8],
 ) -> Result<(), NoMemory>
-    requires each { list_all is_stretch stretches.old ≡ true }
-    requires cut { IsCut stretches.old from (from + length bytes.now) cut.from cut.to }
+    requires stand { are_stretches stretches.old ≡ true }
     requires within { from + length bytes.now ≤ FILE_BYTES_MAX }
     ensures ok { OnOk result (all_bytes stretches.new ≡ unsaved_after (all_bytes stretches.old) host from bytes.now) }
     ensures each { OnOk result (list_all is_stretch stretches.new ≡ true) }
     ensures err { OnErr result (stretches.new ≡ stretches.old) }
 {
     let alloc = stretches.alloc();
-    let part = &stretches.as_slice()[cut.from..cut.to];
-    let written = written_over(alloc, part, host, from, bytes)?;
+    let list = stretches.as_slice();
+    let cut = cut_at(list, from as usize, from as usize + bytes.len());
+    let written = written_over(alloc, &list[cut.from..cut.to], host, from, bytes)?;
     put_between(stretches, cut, written)?;
     Ok(())
 }
