@@ -1,5 +1,6 @@
 -- Stretches of unsaved bytes.
-use Rattle.std.specs.Prelude.{ℕ, ◌+◌, ◌-◌, ◌==◌, nat_lt, nat_le, max, Bool, ◌&&◌, List, ◌++◌, length, take, drop, flat_map}
+use Rattle.std.specs.Prelude.{ℕ, ◌+◌, ◌-◌, ◌==◌, nat_lt, nat_le, max, Bool, ◌&&◌}
+use Rattle.std.specs.Prelude.{List, ◌++◌, length, take, drop, flat_map}
 use Rattle.std.specs.List.{list_all}
 use Rattle.base_types.specs.declared.limits.TheConstants.{FILE_BYTES_MAX}
 use Rattle.base_types.specs.declared.ids.HostId.{HostId}

@@ -3,11 +3,11 @@
 
 mod bytes;
 mod content;
-mod cuts;
 mod entries;
 mod laws;
 mod losses;
 mod object;
+mod parts;
 mod splits;
 mod storing;
 mod stretch;

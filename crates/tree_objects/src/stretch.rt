@@ -51,8 +51,8 @@ pub(crate) fn end(stretch: &Stretch) -> usize
     stretch.from as usize + stretch.bytes.as_slice().len()
 }
 
-/// Whether a host may go on with a stretch by a write from a position on and before another: it begins in the stretch or
-/// directly behind it, and leaves it no longer than a piece, or than it was.
+/// Whether a host may go on with a stretch by a write from a position on and before another: it begins in the stretch
+/// or directly behind it, and leaves it no longer than a piece, or than it was.
 pub(crate) fn reaches(stretch: &Stretch, host: HostId, from: u32, to: usize) -> bool
     ensures { result ≡ reaches host from to stretch.now }
 {

@@ -10,7 +10,7 @@ ghost use Rattle.tree_objects.specs.Stretches.{all_bytes, is_stretch, are_stretc
 
 use crate::bytes::{bytes_over, lengthen, put_each};
 use crate::content::Unsaved;
-use crate::cuts::{cut_at, cut_of, put_between};
+use crate::parts::{cut_at, cut_of, put_between};
 use crate::splits::split_stored;
 use crate::stretch::{
     Stretch, first_byte, push_above, push_below, push_written, reaches, write_in,

@@ -3,7 +3,7 @@ use Rattle.std.specs.List.{splice}
 use Rattle.std.specs.Vec.Iter.{into_iter_len}
 use Rattle.std.proofs.lemmas.Grind.{common_steps}
 use Rattle.tree_objects.proofs.Cuts.{yields_all}
-use Rattle.tree_objects.proofs.cuts.put_between.Goals as goal
+use Rattle.tree_objects.proofs.parts.put_between.Goals as goal
 
 pub returns-clause-ok : goal.returns-clause-ok
 returns-clause-ok c =

@@ -1,7 +1,7 @@
 use Rattle.std.proofs.Common.{nat_lt, rules}
 use Rattle.std.proofs.lemmas.List.Sorted.{IsPartitionPoint-from_clause}
 use Rattle.tree_objects.proofs.Cuts.{begun_first, above_of}
-use Rattle.tree_objects.proofs.cuts.count_begun.Goals as goal
+use Rattle.tree_objects.proofs.parts.count_begun.Goals as goal
 
 pub returns-clause-above : goal.returns-clause-above
 returns-clause-above c =

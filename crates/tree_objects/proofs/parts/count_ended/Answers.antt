@@ -1,7 +1,7 @@
 use Rattle.std.proofs.Common.{◌+◌, length, nat_le, rules}
 use Rattle.std.proofs.lemmas.List.Sorted.{IsPartitionPoint-from_clause}
 use Rattle.tree_objects.proofs.Cuts.{ended_first, below_of}
-use Rattle.tree_objects.proofs.cuts.count_ended.Goals as goal
+use Rattle.tree_objects.proofs.parts.count_ended.Goals as goal
 
 pub returns-clause-below : goal.returns-clause-below
 returns-clause-below c =

@@ -1,5 +1,5 @@
 use Rattle.tree_objects.proofs.Cuts.{cut_found}
-use Rattle.tree_objects.proofs.cuts.cut_at.Goals as goal
+use Rattle.tree_objects.proofs.parts.cut_at.Goals as goal
 
 pub returns : goal.returns
 returns c =
