@@ -1,6 +1,6 @@
 -- Bytes that are read, and the unsaved ones that are put over them.
 use Rattle.std.proofs.Common.{◌≡◌, ℕ, zero, suc, ◌+◌, ◌-◌, ◌<◌, ◌==◌, true, false, List, [], ◌∷◌, ◌++◌, length, take}
-use Rattle.std.proofs.Common.{drop, get_or, set, replicate, min, refl, sym, ap, ◌∙◌, drop-cons, arith, inl, inr}
+use Rattle.std.proofs.Common.{drop, get_or, set, replicate, min, refl, sym, ap, ◌∙◌, arith, inl, inr}
 use Rattle.std.proofs.lemmas.Grind.{common_steps}
 use Rattle.std.proofs.lemmas.List.{take-replicate}
 use Rattle.std.proofs.lemmas.Bool.Decides.{leb_tells}

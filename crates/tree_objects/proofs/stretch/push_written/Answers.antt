@@ -1,4 +1,4 @@
-use Rattle.std.proofs.Common.{◌≡◌, ◌≤◌, ◌-◌, length, take, drop, length-take, ◌∙◌, arith}
+use Rattle.std.proofs.Common.{◌≤◌, ◌-◌, drop, length-take, arith}
 use Rattle.std.proofs.lemmas.List.{length-drop}
 use Rattle.tree_objects.proofs.Stored.{none_written, piece_added, all_written}
 use Rattle.tree_objects.proofs.stretch.push_written.Goals as goal
