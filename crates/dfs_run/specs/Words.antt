@@ -1,5 +1,20 @@
 -- Which words ask for a journal.
-use Rattle.std.specs.Prelude.{ℕ, Bool, false, ◌&&◌, if◌then◌else◌, List, ◌∷◌, ◌++◌, take, drop, Option, None, slice_get, codes}
+use Rattle.std.specs.Prelude.{
+  ℕ,
+  Bool,
+  false,
+  ◌&&◌,
+  if◌then◌else◌,
+  List,
+  ◌∷◌,
+  ◌++◌,
+  take,
+  drop,
+  Option,
+  None,
+  slice_get,
+  codes,
+}
 use Rattle.script_words.specs.Fields.{is_word}
 use Rattle.script_commands.specs.Disks.{is_disk_name}
 

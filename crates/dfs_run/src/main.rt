@@ -80,7 +80,8 @@ fn main(rt: HostRuntime) -> ExitCode {
     ExitCode::from(code)
 }
 
-// The number with which the program ends. What the outcome holds isn't taken apart: the system takes all memory at once.
+// The number with which the program ends. What the outcome holds isn't taken apart: the system takes all memory at
+// once.
 fn code_of(outcome: Outcome) -> u8
     ensures { result ≡ code_of outcome.status }
 {
@@ -89,8 +90,8 @@ fn code_of(outcome: Outcome) -> u8
     code
 }
 
-// The number with which the program ends. Of a run that came to its end the journal is written to the file of this name,
-// if one is asked for.
+// The number with which the program ends. Of a run that came to its end the journal is written to the file of this
+// name, if one is asked for.
 fn finish<K: Sink>(
     rt: &(impl Files<File = File> + Eprint + AllocGlobal),
     outcome: Outcome,

@@ -19,8 +19,8 @@ disk_record view aggregate =
 abbrev pub kept_state : {D : Type 0} → (D → DiskView) → Aggregate D → StoreState
 kept_state view aggregate = if aggregate.is_open then state_in aggregate else disk_record view aggregate
 
--- what a crash at some moment from one on might have left of its disk, which are bytes, and the record that they have of
--- its server's store
+-- what a crash at some moment from one on might have left of its disk, which are bytes, and the record that they have
+-- of its server's store
 abbrev pub left_of : {D : Type 0} → (D → DiskView) → Aggregate D → ℕ → List ℕ → Type 0
 left_of view aggregate moment c = AreBytes c × (view (disk_in aggregate)).left_since moment c
 

@@ -1,14 +1,14 @@
 -- Messages in slots of which some are empty.
 use Rattle.std.proofs.Common.{◌≡◌, ℕ, ◌<◌, ◌≤◌, suc, zero, ◌+◌, Bool, true, false, not, cond, ◌||◌, ◌==◌, List, [], ◌∷◌, ◌++◌}
-use Rattle.std.proofs.Common.{length, take, drop, get_or, Option, Some, None, is_some, refl, sym, ap, subst, ◌∙◌, arith}
+use Rattle.std.proofs.Common.{length, get_or, Option, Some, None, is_some, refl, sym, ap, ◌∙◌, arith}
 use Rattle.std.specs.Prelude.{slice_set}
-use Rattle.std.specs.List.{filter, find, list_any, position}
+use Rattle.std.specs.List.{filter, find, list_any}
 use Rattle.std.specs.Option.{option_flatten}
 use Rattle.message_types.specs.declared.message.Message.{Message}
 use Rattle.host_gives.specs.Giving.{without}
 use Rattle.host_gives.specs.Slots.{held_in, holds}
 use Rattle.host_gives.proofs.Going.{differs}
-use Rattle.host_gives.proofs.Places.{at_none, at_place, place}
+use Rattle.host_gives.proofs.Places.{place}
 use Rattle.host_gives.proofs.Staying.{first_behind, first_here}
 
 pub held_more : (xs ys : List (Option Message)) → held_in (xs ++ ys) ≡ held_in xs ++ held_in ys
@@ -76,30 +76,24 @@ module _ (test : Message → Bool) where
   inside (y ∷ ys) (suc i) x lt e = inside ys i x (omega (arith, lt)) e
 
   -- what is taken out of the first slot that passes, and what is left
-  pub taken_at : (xs : List (Option Message)) (i : ℕ) (x : Option Message) → position (holds test) xs ≡ Some i →
-      x ≡ get_or xs i x →
+  pub at_the_first : (xs : List (Option Message)) (i : ℕ) (x : Option Message) → i < length xs →
+      i ≡ place (holds test) xs → x ≡ get_or xs i x →
       (x ≡ find test (held_in xs)) × (held_in (slice_set xs i None) ≡ without test (held_in xs))
-  taken_at xs i x at is =
-      let k = at_place (holds test) xs i at in
-      let r = there xs k.0 in
-      let low : i < length xs = omega (arith, k.0, k.1) in (
-        inside xs i x low is ∙ ap (λ n. get_or xs n None) k.1 ∙ r.0,
-        ap (λ n. held_in (slice_set xs n None)) k.1 ∙ r.1,
+  at_the_first xs i x low at is =
+      let r = there xs (omega (arith, low, at)) in (
+        inside xs i x low is ∙ ap (λ n. get_or xs n None) at ∙ r.0,
+        ap (λ n. held_in (slice_set xs n None)) at ∙ r.1,
       )
 
-  nowhere : (xs : List (Option Message)) → length xs ≤ place (holds test) xs →
+  pub past_all : (xs : List (Option Message)) → length xs ≤ place (holds test) xs →
       (None ≡ find test (held_in xs)) × (held_in xs ≡ without test (held_in xs))
-  nowhere [] le = (refl, refl)
-  nowhere (None ∷ xs) le = nowhere xs (omega (arith, le))
-  nowhere (Some m ∷ xs) le =
+  past_all [] le = (refl, refl)
+  past_all (None ∷ xs) le = past_all xs (omega (arith, le))
+  past_all (Some m ∷ xs) le =
       elim (test m) as (λ t. test m ≡ t → suc (length xs) ≤ cond (not t) (1 + place (holds test) xs) 0 →
       (None ≡ cond t (Some m) (find test (held_in xs))) × (m ∷ held_in xs ≡ without test (m ∷ held_in xs))) [
         | true ↦ λ e k. absurd (omega (arith, k))
         | false ↦ λ e k.
-            let r = nowhere xs (omega (arith, k)) in
+            let r = past_all xs (omega (arith, k)) in
             (r.0, ap (λ zs. m ∷ zs) r.1 ∙ sym (first_behind test m (held_in xs) e))
       ] refl le
-
-  pub taken_nowhere : (xs : List (Option Message)) → position (holds test) xs ≡ None →
-      (None ≡ find test (held_in xs)) × (held_in xs ≡ without test (held_in xs))
-  taken_nowhere xs at = nowhere xs (at_none (holds test) xs at)

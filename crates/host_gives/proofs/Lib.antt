@@ -4,3 +4,4 @@ pub mod Staying
 pub mod Adding
 pub mod Going
 pub mod Emptied
+pub mod Starting

@@ -1,4 +1,4 @@
 pub mod Counters
-pub mod Slots
 pub mod Giving
+pub mod Slots
 pub mod GiveLaws

@@ -1,9 +1,10 @@
 ghost use Rattle.std.specs.Prelude.{◌≡◌, ◌==◌, ◌<◌, ◌∷◌, ◌++◌, [], Some, is_some, length, option_copied, OnErr, OnOk};
-ghost use Rattle.std.specs.Prelude.{slice_index_or, slice_set, None};
+ghost use Rattle.std.specs.Prelude.{◌≤◌, List, None, Option, drop, slice_get, slice_index_or, slice_set};
+ghost use Rattle.message_types.specs.declared.message.Message.{Message};
 ghost use Rattle.std.specs.List.{find, list_any, position};
 ghost use Rattle.token_types.specs.Conflicts.{same_id};
 ghost use Rattle.host_gives.specs.Giving.{counted, give_of, is_numbered, is_of, is_of_file, names, number_of, without};
-ghost use Rattle.host_gives.specs.Slots.{held_in, holds};
+ghost use Rattle.host_gives.specs.Slots.{AreStarts, IsStart, held_in, holds, is_start, start_of};
 
 use crate::counters::{Counter, set_last};
 use base_types::{Fid, FilesetId, Items, NoMemory, Plain};
@@ -12,6 +13,13 @@ use std::alloc::Global;
 use std::marker::Model;
 use token_types::TokenId;
 
+/// A slot before which no message gives back of a fileset.
+#[derive(Clone, Copy)]
+struct Start {
+    fileset: FilesetId,
+    slot: usize,
+}
+
 /// Messages in order. The slot of one that was taken out stays empty until most slots are, so that the others needn't
 /// move each time.
 #[derive(Drop)]
@@ -19,16 +27,20 @@ pub(crate) struct Slots {
     slots: Items<Option<Message>>,
     /// How many were taken out since the empty slots went.
     gaps: usize,
+    /// Where a fileset's messages are looked for; those of others from the first slot on.
+    starts: Items<Start>,
 }
 
 impl Model for Slots {
     ghost use Rattle.std.specs.Prelude.{List};
     ghost use Rattle.message_types.specs.declared.message.Message.{Message};
-    ghost use Rattle.host_gives.specs.Slots.{held_in};
+    ghost use Rattle.host_gives.specs.Slots.{AreStarts, held_in};
 
     ghost Value = { List Message };
 
     ghost view = { λ s. held_in s.slots };
+
+    ghost invariant = { λ s. AreStarts s.slots s.starts };
 }
 
 impl Slots {
@@ -39,6 +51,7 @@ impl Slots {
         Slots {
             slots: Items::new(alloc),
             gaps: 0,
+            starts: Items::new(alloc),
         }
     }
 
@@ -57,11 +70,11 @@ impl Slots {
     }
 
     /// The first message that gives back of a fileset.
-    #[tactic(auto, using(crate::proofs::Emptied::find_held))]
     pub(crate) fn first_of(&self, fileset: FilesetId) -> Option<&Message>
         ensures { option_copied result ≡ find (is_of fileset) self.now }
     {
-        match slot_of(self.slots.as_slice(), fileset) {
+        let start = start_of(self.starts.as_slice(), fileset);
+        match slot_behind(self.slots.as_slice(), start, fileset) {
             Some(slot) => slot.as_ref(),
             None => None,
         }
@@ -72,11 +85,18 @@ impl Slots {
         ensures taken { result ≡ find (is_numbered fileset number) self.old }
         ensures rest { self.new ≡ without (is_numbered fileset number) self.old }
     {
-        let Some(place) = place_numbered(self.slots.as_slice(), fileset, number) else {
+        let start = start_of(self.starts.as_slice(), fileset);
+        let Some(behind) = place_behind(self.slots.as_slice(), start, fileset, number) else {
             return None;
         };
+        let place = start + behind;
         let taken = empty(&mut self.slots, place);
-        self.gaps = close_gaps(&mut self.slots, self.gaps.saturating_add(1));
+        move_start(&mut self.starts, self.slots.as_slice(), fileset, place);
+        self.gaps = close_gaps(
+            &mut self.slots,
+            &mut self.starts,
+            self.gaps.saturating_add(1),
+        );
         taken
     }
 
@@ -121,13 +141,12 @@ impl Slots {
 }
 
 // Adds a message at the end, and counts what it gives back.
-#[tactic(auto, using(crate::proofs::Emptied::held_more))]
 fn push_counted(
     slots: &mut Items<Option<Message>>,
     give: &Message,
     counters: &mut Items<Counter>,
 ) -> Result<(), NoMemory>
-    ensures after { OnOk result (held_in slots.new ≡ held_in slots.old ++ give.now ∷ []) }
+    ensures after { OnOk result (slots.new ≡ slots.old ++ Some give.now ∷ []) }
     ensures counts { OnOk result (counters.new ≡ counted counters.old (give_of give.now)) }
     ensures err { OnErr result (slots.new ≡ slots.old) }
     ensures err_counts { OnErr result (counters.new ≡ counters.old) }
@@ -160,11 +179,51 @@ fn count_give(counters: &mut Items<Counter>, give: &Message) -> Result<(), NoMem
     }
 }
 
-// The slot of the first message that gives back of a fileset.
+// Where a fileset's messages are looked for.
+fn start_of(starts: &[Start], fileset: FilesetId) -> usize
+    ensures { result ≡ start_of starts.now fileset }
+{
+    match known_start(starts, fileset) {
+        Some(start) => start.slot,
+        None => 0,
+    }
+}
+
+fn known_start(starts: &[Start], fileset: FilesetId) -> Option<&Start>
+    ensures { option_copied result ≡ find (is_start fileset) starts.now }
+{
+    starts.iter().find(|start| start.fileset == fileset)
+}
+
+// The slot of the first message that gives back of a fileset, from a slot on.
+fn slot_behind(
+    slots: &[Option<Message>],
+    start: usize,
+    fileset: FilesetId,
+) -> Option<&Option<Message>>
+    requires { start ≤ length slots.now }
+    ensures { option_copied result ≡ find (holds (is_of fileset)) (drop start slots.now) }
+{
+    slot_of(&slots[start..], fileset)
+}
+
 fn slot_of(slots: &[Option<Message>], fileset: FilesetId) -> Option<&Option<Message>>
     ensures { option_copied result ≡ find (holds (is_of fileset)) slots.now }
 {
     slots.iter().find(|slot| has_fileset(slot, fileset))
+}
+
+// The slot of a give-back by its number, behind a slot.
+fn place_behind(
+    slots: &[Option<Message>],
+    start: usize,
+    fileset: FilesetId,
+    number: u64,
+) -> Option<usize>
+    requires { start ≤ length slots.now }
+    ensures { result ≡ position (holds (is_numbered fileset number)) (drop start slots.now) }
+{
+    place_numbered(&slots[start..], fileset, number)
 }
 
 fn place_numbered(slots: &[Option<Message>], fileset: FilesetId, number: u64) -> Option<usize>
@@ -209,14 +268,65 @@ fn empty(slots: &mut Items<Option<Message>>, place: usize) -> Option<Message>
     slots.get_mut(place).take()
 }
 
+// A fileset's messages are looked for behind an empty slot, where none stands before it.
+fn move_start(
+    starts: &mut Items<Start>,
+    slots: &[Option<Message>],
+    fileset: FilesetId,
+    place: usize,
+)
+    requires place { place < length slots.now }
+    requires empty { slice_get slots.now place ≡ Some None }
+    requires right { AreStarts slots.now starts.old }
+    ensures { AreStarts slots.now starts.new }
+{
+    let start = start_of(starts.as_slice(), fileset);
+    if start > place || stands_in(&slots[start..place], fileset) {
+        return;
+    }
+    put_start(
+        starts,
+        Start {
+            fileset,
+            slot: place + 1,
+        },
+    );
+}
+
+// Whether one of some slots holds a message that gives back of a fileset.
+fn stands_in(slots: &[Option<Message>], fileset: FilesetId) -> bool
+    ensures { result ≡ list_any (holds (is_of fileset)) slots.now }
+{
+    slots.iter().any(|slot| has_fileset(slot, fileset))
+}
+
+// Makes this the start of its fileset; without memory for one more nothing changes.
+fn put_start(starts: &mut Items<Start>, start: Start)
+    ensures { (slots : List (Option Message)) → IsStart slots start → AreStarts slots starts.old
+        → AreStarts slots starts.new }
+{
+    match place_of(starts.as_slice(), start.fileset) {
+        Some(place) => starts.put(place, start),
+        None => drop(starts.push(start)),
+    }
+}
+
+fn place_of(starts: &[Start], fileset: FilesetId) -> Option<usize>
+    ensures { result ≡ position (is_start fileset) starts.now }
+{
+    starts.iter().position(|start| start.fileset == fileset)
+}
+
 // Lets the empty slots go, where so many are that most are empty. Answers how many are left.
-fn close_gaps(slots: &mut Items<Option<Message>>, gaps: usize) -> usize
-    ensures { held_in slots.new ≡ held_in slots.old }
+fn close_gaps(slots: &mut Items<Option<Message>>, starts: &mut Items<Start>, gaps: usize) -> usize
+    ensures held { held_in slots.new ≡ held_in slots.old }
+    ensures starts { AreStarts slots.old starts.old → AreStarts slots.new starts.new }
 {
     if gaps <= slots.len() / 2 {
         return gaps;
     }
     let_go(slots);
+    starts.truncate(0);
     0
 }
 

@@ -110,8 +110,8 @@ impl Machine {
         when(begun, self.step(host, draft, Cause::Line(line)))
     }
 
-    /// The next line makes a call that is a Read, Stat, List or GetAcl, and its need is covered; what is known of the file
-    /// that was read last holds, before and after.
+    /// The next line makes a call that is a Read, Stat, List or GetAcl, and its need is covered; what is known of the
+    /// file that was read last holds, before and after.
     pub(crate) fn answer_again(
         &mut self,
         last: &mut Last,

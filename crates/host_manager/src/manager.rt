@@ -111,8 +111,8 @@ impl Manager {
     /// The next line makes a call that is a Read, Stat, List or GetAcl, and its need is covered: the reply's spelling
     /// is put into `out`, and its length answered. The step is the line's, with that one answer and nothing else.
     /// None, and then nothing changes, where the call isn't one of these, its need isn't covered, the reply has no
-    /// spelling that can be read back (more than 65,535 names, or rights that are none), `out` is too short, or 2^32 - 1
-    /// calls were begun. The machine is free. It takes no memory.
+    /// spelling that can be read back (more than 65,535 names, or rights that are none), `out` is too short, or
+    /// 2^32 - 1 calls were begun. The machine is free. It takes no memory.
     pub fn answer_into(&mut self, call: &Call, out: &mut [u8]) -> Option<usize>
         requires { IsFree (tables_of self.old) }
         ensures { (script : Script) (past : List StepOf) → IsRunning script (tables_of self.old) past

@@ -1,5 +1,5 @@
-//! A Read of the file that was read last: as long as nothing changed but the order of use, and that by Reads of this file
-//! alone, its way isn't walked again, and to mark what it used would change nothing.
+//! A Read of the file that was read last: as long as nothing changed but the order of use, and that by Reads of this
+//! file alone, its way isn't walked again, and to mark what it used would change nothing.
 ghost use Rattle.std.specs.Prelude.{◌≡◌, [], IfSome, MatchOption, length};
 ghost use Rattle.host_calls.specs.Looking.{AreSized, AreUses};
 ghost use Rattle.host_tells.specs.Knows.{IsFound, IsKnown, IsLast, IsWithin, LeadsThere, ReadsIt};

@@ -34,7 +34,8 @@ pub enum DriveFault {
     Memory,
     /// All nodes came to rest, and not all were done, as where a node waits for a flag that nobody raises, or for a
     /// copy that waits for one: in its newest round each handed in nothing and was given nothing, and none made
-    /// anything. A node that isn't done by its own steps is named, with its next line.
+    /// anything. A node that isn't done by its own steps is named, with its next line. Of hosts and servers the law
+    /// `runs_end` says that a run which rests so is ended, but where it waits for such a flag or a move of a fileset.
     Stuck(Waiting),
 }
 

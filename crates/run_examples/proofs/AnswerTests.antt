@@ -195,7 +195,9 @@ module _ (server : ServerId) (past : List Doing) (s : Step) where
           let q = and_parts a (not (down past k.host)) p in
           let r = came_bye k.host s.cause refl q.0 in (
             subst (λ y. HeardNow s y Bye) at r,
-            λ x. is_not (down past k.host) q.1 (down_is past k.host (subst (λ y. HasGoneDown past y) (sym at) x)),
+            (λ x. is_not (down past k.host) q.1 (down_is past k.host (subst (λ y. HasGoneDown past y) (sym at) x))),
+            λ l. let r = subst (λ y. HeardNow s y Bye) at r in
+                (r.0.moves, ((r.0, r.1, r.2, in_epoch r.0 r.1 r.3, refl, r.3), l)),
           );
       reclaimed_only = λ h r (k, i, at, is).
           let a = by_message false (λ m. is_hello m.body && same_host m.host k.host) s.cause in
@@ -298,6 +300,12 @@ module _ (server : ServerId) (past : List Doing) (s : Step) where
 
       parts : (m : Message) → s.cause ≡ Came m → AllTrue (answers_so past s m)
       parts m c = all_true (answers_so past s m) (at_cause (λ m. passes (answers_so past s m)) s m t.0 c)
+
+      in_epoch : (m : Message) → s.cause ≡ Came m → m.body ≡ Bye → m.epoch ≡ epoch past
+      in_epoch m c is = elim (or_cases (m.epoch == epoch past) (is_hello m.body || is_down m.body) (parts m c).1.1.0) [
+        | inl x ↦ eqb-true m.epoch (epoch past) x
+        | inr x ↦ absurd (let y : false ≡ true = subst (λ b. (is_hello b || is_down b) ≡ true) is x in cc)
+      ]
 
       hello : (m : Message) → s.cause ≡ Came m → m.body ≡ Hello
           → (not (listed past m.host) ≡ true) × (sends_to s m.host is_empty ≡ true)

@@ -5,9 +5,9 @@ use Rattle.base_types.specs.declared.ids.HostId.{HostId}
 use Rattle.base_types.specs.declared.ids.ServerId.{ServerId}
 use Rattle.tree_calls.specs.declared.call.Call.TheVariants.{Lock}
 use Rattle.message_types.specs.declared.asking.Change.{Change as ChangeOf}
-use Rattle.message_types.specs.declared.message.Body.TheVariants.{Hello, Change, Reclaim, Restarted}
+use Rattle.message_types.specs.declared.message.Body.TheVariants.{Bye, Hello, Change, Reclaim, Restarted}
 use Rattle.message_types.specs.declared.message.Message.{Message}
-use Rattle.run_rules.specs.Doings.{Doing, Enlists, Hears, IsLive, ListedNow, doings_of}
+use Rattle.run_rules.specs.Doings.{Doing, Enlists, Hears, IsLive, ListedNow, TakenNow, doings_of}
 use Rattle.run_rules.specs.Doings.Doing.{BeginsEpoch, Reserves, Sent}
 use Rattle.run_rules.specs.HostDue.{HostDue}
 use Rattle.run_rules.specs.HostMay.{HostMay}
@@ -21,7 +21,8 @@ use Rattle.run_rules.specs.declared.step.Step.{Step}
 use Rattle.run_tokens.specs.Worked.{client, enter, from_server, site_one, to_host, to_server, welcome, welcomes}
 use Rattle.message_types.specs.declared.message.Body.TheVariants.{Reclaimed}
 use Rattle.run_examples.specs.Laws.{Does, restarting, writing}
-use Rattle.run_examples.specs.Refused.{LocksBytes, OddSteps, asks_ungreeted, gives_length, greets_twice, looking}
+use Rattle.run_examples.specs.Refused.{LocksBytes, OddSteps, asks_ungreeted, ends_old, gives_length, greets_twice}
+use Rattle.run_examples.specs.Refused.{looking}
 use Rattle.run_examples.specs.Refused.{no_tokens, restarted, tells_unasked, unasked, welcomes_old}
 use Rattle.run_examples.specs.Steps.{file_tree, grown}
 use Rattle.run_examples.proofs.Examples.{computed}
@@ -65,6 +66,9 @@ not_now (inr (inr (inl e, c), b)) =
     no_greeting (doings_of 1 site_one (welcomes ∷ [])) (BeginsEpoch 2) (λ p. let q = p.2 in cc) e
 not_now (inr (inr (inr (l, d), c), b)) = d (2, refl)
 
+came_is : (m n : Message) → Came m ≡ Came n → m ≡ n
+came_is m n e = cc
+
 not_old : ServerMay restarting file_tree site_one restarted past_then welcomes_old → ⊥
 not_old may = elim (may.answers.reclaimed_only client welcome
     (from_server (Reclaimed welcome), inr (inl refl), refl, refl)) [
@@ -72,9 +76,16 @@ not_old may = elim (may.answers.reclaimed_only client welcome
       | inr (inl x) ↦ elim x.1 [ ]
       | inr (inr x) ↦ let is : Hello ≡ Reclaim x.1 = ap (λ (m : Message). m.body) (came_is _ _ x.2.0.1) ∙ x.2.0.5 in cc
     ]
+
+not_late : ServerMay restarting file_tree site_one restarted past_then ends_old → ⊥
+not_late may =
+    let x = may.answers.bye_only client (from_server Bye, inr (inl refl), refl, refl) in old (x.2 lives)
   where
-    came_is : (m n : Message) → Came m ≡ Came n → m ≡ n
-    came_is m n e = cc
+    old : (n : ℕ) × TakenNow past_then ends_old client n Bye → ⊥
+    old (n, t) =
+        let is : suc zero ≡ suc (suc zero) =
+        ap (λ (m : Message). m.epoch) (came_is (to_server 1 Bye) t.0.0 t.0.1) ∙ t.0.3 in
+        cc
 
 none_said : (v : ServerId) → HasGreeted (unasked ∷ []) v → ⊥
 none_said v (e, n, inl (m, is, sv, ev, nv, body)) = elim is [ ]
@@ -115,6 +126,7 @@ pub odd_steps : OddSteps
 odd_steps = record {
   told = not_told;
   old = not_old;
+  late = not_late;
   heard = heard;
   asks = not_asked;
   greets = not_twice;

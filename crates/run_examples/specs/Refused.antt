@@ -7,7 +7,8 @@ use Rattle.tree_calls.specs.declared.call.Call.TheVariants.{Lock}
 use Rattle.tree_calls.specs.declared.place.Place.{Place}
 use Rattle.message_types.specs.declared.asking.Change.{Change as ChangeOf}
 use Rattle.message_types.specs.declared.giving.Give.{Give}
-use Rattle.message_types.specs.declared.message.Body.TheVariants.{Hello, Change, Done, GiveBack, Reclaimed, Restarted}
+use Rattle.message_types.specs.declared.message.Body.TheVariants.{Bye, Change, Done, GiveBack, Hello, Reclaimed}
+use Rattle.message_types.specs.declared.message.Body.TheVariants.{Restarted}
 use Rattle.script_lines.specs.declared.script.Deed.TheVariants.{Call as MakesCall}
 use Rattle.script_lines.specs.declared.script.Script.{Script}
 use Rattle.run_rules.specs.Doings.{Doing, doings_of as acts_of}
@@ -61,6 +62,10 @@ restarted = restarts ∷ welcomes ∷ []
 abbrev pub welcomes_old : Step
 welcomes_old = serves (Came (to_server 0 Hello)) [] [] (from_server Restarted ∷ from_server (Reclaimed welcome) ∷ [])
 
+-- A late Bye of the epoch before comes, and the server says both that it has restarted and Bye.
+abbrev pub ends_old : Step
+ends_old = serves (Came (to_server 1 Bye)) [] [] (from_server Restarted ∷ from_server Bye ∷ [])
+
 -- a lock of so many bytes is asked for
 abbrev pub LocksBytes : ChangeOf → ℕ → Type 0
 LocksBytes change len =
@@ -68,13 +73,15 @@ LocksBytes change len =
 
 -- A server says Reclaimed only where it was asked. A host bears one all the same, and doesn't count as welcome by it,
 -- since it has greeted nobody; so it asks nothing. A live host of an older epoch gets no Reclaimed for its Hello: it
--- would take it, be in the new epoch without a claim, and the grace period would wait for the claim for ever. Nothing
--- is said twice in a step, and a give-back names a token. A lock of no bytes makes no want, whoever asks for it; one of
--- any other length may.
+-- would take it, be in the new epoch without a claim, and the grace period would wait for the claim for ever. Nor does
+-- its Bye of an older epoch get a Bye: the host would be done, and the server would keep it on its list for ever.
+-- Nothing is said twice in a step, and a give-back names a token. A lock of no bytes makes no want, whoever asks for
+-- it; one of any other length may.
 pub record OddSteps : Type 0 where
   pub told : ServerMay looking file_tree site_one [] (acts_of 1 site_one []) tells_unasked → ⊥
   pub heard : Does looking client [] unasked
   pub old : ServerMay restarting file_tree site_one restarted (acts_of 1 site_one restarted) welcomes_old → ⊥
+  pub late : ServerMay restarting file_tree site_one restarted (acts_of 1 site_one restarted) ends_old → ⊥
   pub asks : HostMay looking client (unasked ∷ []) asks_ungreeted → ⊥
   pub greets : HostDue looking client [] greets_twice → ⊥
   pub gives : HostMay writing client grown gives_length → ⊥

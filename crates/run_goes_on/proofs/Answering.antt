@@ -18,7 +18,7 @@ use Rattle.message_types.specs.declared.message.Body.TheVariants.{Down, GiveBack
 use Rattle.message_types.specs.declared.message.Body.TheVariants.{Restarted}
 use Rattle.message_types.specs.declared.message.Direction.TheVariants.{ToHost, ToServer}
 use Rattle.message_types.specs.declared.message.Message.{Message}
-use Rattle.run_rules.specs.Doings.{Doing, GoesAway, HasGoneAway, HasReclaimed, InEpoch, IsApplied, IsLive, Listed}
+use Rattle.run_rules.specs.Doings.{Doing, GoesAway, HasGoneAway, HasReclaimed, IsApplied, IsLive, Listed}
 use Rattle.run_rules.specs.Doings.{SentNow, SentTo, TakesFrom, TakesOf, TookNow, TookOf, admitting, after_cause}
 use Rattle.run_rules.specs.Doings.{after_deciding, after_step, doings_of, epoch}
 use Rattle.run_rules.specs.Doings.Doing.{Took}
@@ -42,10 +42,10 @@ use Rattle.run_tokens.proofs.Words.{acts_after, if_host, if_server, own_after}
 use Rattle.run_goes_on.proofs.Arriving.{due_at, due_of, found, from_cause, from_one, host_sends, meets_at, step_on}
 use Rattle.run_goes_on.proofs.Arriving.{whole_at}
 use Rattle.run_goes_on.proofs.Claiming.{IsOnList, acts_later, own_later, waiting}
-use Rattle.run_goes_on.proofs.Doings.{epoch_after_cause, epoch_after_step, epoch_step, heard, listed_said, sent_so}
+use Rattle.run_goes_on.proofs.Doings.{epoch_after_cause, epoch_step, heard, listed_said, sent_so}
 use Rattle.run_goes_on.proofs.Giving.{gives_are_known}
-use Rattle.run_goes_on.proofs.Grown.{admitted_at, cause_each, in_cause, in_caused, reclaims_cause, reclaims_step}
-use Rattle.run_goes_on.proofs.Grown.{sent_split, taken_admitting, taken_step}
+use Rattle.run_goes_on.proofs.Grown.{admitted_at, cause_each, grows_on, in_cause, in_caused, in_last, reclaims_cause}
+use Rattle.run_goes_on.proofs.Grown.{reclaims_step, sent_split, taken_admitting, taken_step}
 use Rattle.run_goes_on.proofs.Positions.{Cut, always_back, cut, doings_on, host_steps, own_on, server_doings}
 use Rattle.run_goes_on.proofs.Telling.{After, above_before, after, below, decide, first}
 use Rattle.run_goes_on.proofs.Telling.{here, learns_by, less, mark_before}
@@ -471,39 +471,6 @@ module _ (script : Script) (start : Tree) (firsts : ServerId → ℕ) (real : (v
               | inr old ↦ inl old
             ]) (λ o. inl o) now
 
-    grows_to : (l p : List Step) → appended l p ≡ run → epoch (acts p) ≤ epoch (acts run)
-    grows_to l p w =
-        subst (λ (L : List Step). epoch (acts p) ≤ epoch (acts L)) w
-        (doings_on (firsts v) v (λ (S : List Doing). epoch (acts p) ≤ epoch S)
-        (λ S t q. (let grows = epoch_after_step t S in omega (arith, q, grows))) l p (omega arith))
-
-    -- what was so in the last epoch is so at the end
-    in_end : (P : List Doing → Doing → Type 0) (l p : List Step) → appended l p ≡ run
-        → epoch (acts run) ≤ epoch (acts p) → InEpoch P (acts p) → InEpoch P (acts (appended l p))
-    in_end P [] p w le x = x
-    in_end P (u ∷ l) p w le x = in_end P l (u ∷ p) w le_then (go u.node refl)
-      where
-        le_then : epoch (acts run) ≤ epoch (acts (u ∷ p))
-        le_then =
-            let grows : epoch (acts p) ≤ epoch (acts (u ∷ p)) =
-            doings_on (firsts v) v (λ (S : List Doing). epoch (acts p) ≤ epoch S)
-            (λ S t q. (let up = epoch_after_step t S in omega (arith, q, up))) (u ∷ []) p (omega arith) in
-            omega (arith, le, grows)
-
-        by_server : u.node ≡ Server v → InEpoch P (after_step u (acts p))
-        by_server at =
-            let is = server_doings (firsts v) v u p at in
-            let ends : epoch (after_step u (acts p)) ≤ epoch (acts run) =
-            subst (λ (S : List Doing). epoch S ≤ epoch (acts run)) is (grows_to l (u ∷ p) w) in
-            let steps = epoch_step u (acts p) in
-            let grows = epoch_after_cause u (acts p) in
-            in_caused P u (acts p) (in_cause P u.cause (acts p) (omega (arith, le, ends, steps, grows)) x)
-
-        go : (k : Node) → u.node ≡ k → InEpoch P (acts_after v k u (acts p))
-        go (Host k) at = x
-        go (Server k) at =
-            if_server (InEpoch P) k v (after_step u (acts p)) (acts p) (λ e. by_server (at ∙ ap Server e)) x
-
     may_host : HostMay script host (own past) s
     may_host = (subst (λ (k : Node). StepMeets script start firsts k past s) node (met later (s ∷ past) e).1.0).0
 
@@ -532,7 +499,8 @@ module _ (script : Script) (start : Tree) (firsts : ServerId → ℕ) (real : (v
         is_e0 : epoch (acts f.before) ≡ e0
         is_e0 =
             let ge = f.at.above in
-            let le = grows_to (f.step ∷ f.later_on) f.before whole in
+            let le = subst (λ (L : List Step). epoch (acts f.before) ≤ epoch (acts L)) whole
+            (grows_on firsts v (f.step ∷ f.later_on) f.before) in
             let b = behind in
             omega (arith, ge, le, b, ends)
 
@@ -568,8 +536,9 @@ module _ (script : Script) (start : Tree) (firsts : ServerId → ℕ) (real : (v
         at_end : TookNow (acts run) host k.1 (GiveBack k.0)
         at_end =
             subst (λ (L : List Step). TookNow (acts L) host k.1 (GiveBack k.0)) whole
-            (in_end (λ before x. TakesFrom before x host k.1 (GiveBack k.0)) (f.step ∷ f.later_on) f.before whole
-            (let same = is_e0 in omega (arith, ends, same)) k.2)
+            (in_last firsts v (λ before x. TakesFrom before x host k.1 (GiveBack k.0)) (f.step ∷ f.later_on) f.before
+            (subst (λ (L : List Step). epoch (acts L) ≤ epoch (acts f.before)) (sym whole)
+            (let same = is_e0 in omega (arith, ends, same))) k.2)
 
         stay : first_stay k.0.fid.fileset ≡ record { server = v; moves = k.1 }
         stay =

@@ -153,7 +153,7 @@ module _ (script : Script) (start : Tree) (firsts : ServerId → ℕ) (real : (v
           (subst (λ (h : HostId). HostMay script h (steps_of_host h past) s) same m.0) alone v n b sent z)
           (λ z. z) y
 
-      unanswered_at : (later past : List Step) → appended later past ≡ run → WasSent v b (steps_of_host host past)
+      pub unanswered_at : (later past : List Step) → appended later past ≡ run → WasSent v b (steps_of_host host past)
           → IsUnanswered (steps_of_host host past) v n b
       unanswered_at [] past e sent = subst (λ (L : List Step). IsUnanswered (steps_of_host host L) v n b) (sym e) x
       unanswered_at (s ∷ later) past e sent =

@@ -48,12 +48,12 @@ module _ (v : ServerId) where
   ]
 
 pub hosts_are_done : HostsAreDone
-hosts_are_done script journal q rests awaits host part live shut done welcome =
+hosts_are_done script journal q rests awaits host part live shut done =
     let end = hosts_come_to_their_end script journal q rests awaits host part live shut done in (
       end.gone,
       inr (λ v greeted. elim (has_bye v (steps_of_host host (past_of journal))) [
         | inl bye ↦ bye
         | inr none ↦
-            absurd (byes_are_answered script journal q host live v (welcome v (end.byes v greeted)) none)
+            absurd (byes_are_answered script journal q host live v (end.byes v greeted) none)
       ]),
     )

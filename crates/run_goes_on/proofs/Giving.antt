@@ -1,7 +1,6 @@
 -- A give-back that a host has made is known as applied, once all that was sent is over.
-use Rattle.std.proofs.Common.{Bool, List, [], ap, arith, false, if◌then◌else◌, inl, inr, length, nat_lt, refl, subst}
-use Rattle.std.proofs.Common.{suc, sym, true, zero, ℕ, ◌&&◌, ◌<◌, ◌==◌, ◌∙◌, ◌∷◌, ◌≡◌, ◌≤◌, ◌⊎◌}
-use Rattle.std.proofs.lemmas.Bool.{and_parts, eq-eqb, eqb-true, ltb-false, ltb-true}
+use Rattle.std.proofs.Common.{Bool, List, [], ap, arith, false, inl, inr, length, refl, subst}
+use Rattle.std.proofs.Common.{suc, sym, true, zero, ℕ, ◌<◌, ◌∙◌, ◌∷◌, ◌≡◌, ◌≤◌, ◌⊎◌}
 use Rattle.base_types.specs.declared.ids.HostId.{HostId}
 use Rattle.base_types.specs.declared.ids.Node.{Node}
 use Rattle.base_types.specs.declared.ids.Node.TheVariants.{Host, Server}
@@ -12,25 +11,23 @@ use Rattle.token_types.specs.declared.token.TokenId.{TokenId}
 use Rattle.script_lines.specs.declared.script.Script.{Script}
 use Rattle.message_types.specs.declared.giving.Give.{Give}
 use Rattle.message_types.specs.declared.message.Body.{Body}
-use Rattle.message_types.specs.declared.message.Body.TheVariants.{Bye, Down, GiveBack, Gone, Hello, Reclaim, Reclaimed}
+use Rattle.message_types.specs.declared.message.Body.TheVariants.{Bye, Down, GiveBack, Gone, Hello}
 use Rattle.message_types.specs.declared.message.Body.TheVariants.{Restarted}
-use Rattle.message_types.specs.declared.message.Direction.{Direction}
 use Rattle.message_types.specs.declared.message.Direction.TheVariants.{ToHost, ToServer}
 use Rattle.message_types.specs.declared.message.Message.{Message}
 use Rattle.message_types.specs.declared.telling.Bring.{Bring}
 use Rattle.run_examples.proofs.Words.{is_known, known_is, known_yes}
-use Rattle.run_rules.specs.Doings.{Doing, HasGoneAway, HasReclaimed, Here, IsLive, Issued, SentNow, StayStamp}
+use Rattle.run_rules.specs.Doings.{Doing, HasGoneAway, Here, IsLive, Issued, ListedNow, SentNow, StayStamp}
 use Rattle.run_rules.specs.Doings.{after_cause, doings_of, epoch}
 use Rattle.run_rules.specs.Doings.Doing.{Sent}
 use Rattle.run_rules.specs.HostDue.{HostDue}
 use Rattle.run_rules.specs.HostMay.{HostMay}
-use Rattle.run_rules.specs.Messages.{HasGreeted, HasSaid, HasStopped, Sends, Stay, epoch_at, epoch_raised}
-use Rattle.run_rules.specs.Messages.{epoch_raised_by, first_stay, home, stay_of}
+use Rattle.run_rules.specs.Messages.{HasGreeted, HasSaid, HasStopped, Sends, Stay, epoch_at}
+use Rattle.run_rules.specs.Messages.{first_stay, home, stay_of}
 use Rattle.run_rules.specs.Past.{Always, In, appended}
-use Rattle.run_rules.specs.Plans.{receiver_by, resender, resender_by}
-use Rattle.run_rules.specs.Runs.{IsFrom, StepDue, StepMeets, StepsMeet, firsts_of, past_of}
+use Rattle.run_rules.specs.Plans.{resender_by}
+use Rattle.run_rules.specs.Runs.{StepDue, StepMeets, StepsMeet, firsts_of, past_of}
 use Rattle.run_rules.specs.ServerDue.{ServerDue}
-use Rattle.run_rules.specs.ServerMay.{ServerMay}
 use Rattle.run_rules.specs.ServerTokens.{ServerTokens}
 use Rattle.run_rules.specs.Steps.{steps_of_host, steps_of_server}
 use Rattle.run_rules.specs.Tokens.{AtHand, IsKnown, IsOutstanding, Made, Uses, number_of}
@@ -40,54 +37,18 @@ use Rattle.run_rules.specs.declared.step.Step.{Step}
 use Rattle.run_tokens.proofs.Invariant.{Alone}
 use Rattle.run_tokens.proofs.Law.{Whole, always}
 use Rattle.run_tokens.proofs.TokenRun.{token_run}
-use Rattle.run_tokens.proofs.Words.{epoch_grows, if_host, made_left, own_after, raised_cases}
+use Rattle.run_tokens.proofs.Words.{if_host, made_left, own_after}
 use Rattle.run_goes_on.proofs.Arriving.{due_at, due_of, found, from_one, host_sends, meets_at, whole_at}
 use Rattle.run_goes_on.proofs.Calls.{outstanding_of}
-use Rattle.run_goes_on.proofs.Doings.{Knows, epoch_after_cause, epoch_after_step, epoch_step, heard, knows}
-use Rattle.run_goes_on.proofs.Doings.{listed_said, reclaimed_by, sent_so}
-use Rattle.run_goes_on.proofs.Positions.{Cut, cut, doings_on, host_steps, own_on, own_run, server_doings}
-use Rattle.run_goes_on.proofs.Posted.{comes_of}
+use Rattle.run_goes_on.proofs.Doings.{Knows, epoch_after_cause, heard, knows}
+use Rattle.run_goes_on.proofs.Doings.{listed_said, sent_so}
+use Rattle.run_goes_on.proofs.Positions.{Cut, cut, host_steps, own_on, own_run}
 use Rattle.run_goes_on.proofs.Staying.{SendsIt, WasSent, give_said, said_so}
-use Rattle.run_goes_on.specs.Rest.{AllIsOver, IsStopped, IsTakenIn, LapsesIn, NoneIsHeld}
+use Rattle.run_goes_on.proofs.Telling.{After, above_before, after, below, decide, first, learns_by, mark_before}
+use Rattle.run_goes_on.proofs.Telling.{no_lapse, server_due, server_from, server_may, server_sends, tells_none}
+use Rattle.run_goes_on.proofs.Telling.{whole_cut}
+use Rattle.run_goes_on.specs.Rest.{AllIsOver, IsTakenIn, LapsesIn, NoneIsHeld}
 use Rattle.run_goes_on.specs.Waiting.{GivesAreKnown}
-
--- # Words
-
-decide : (x y : ℕ) → (x < y) ⊎ (y ≤ x)
-decide x y = go (nat_lt x y) refl
-  where
-    go : (b : Bool) → nat_lt x y ≡ b → (x < y) ⊎ (y ≤ x)
-    go true e = inl (ltb-true x y e)
-    go false e = inr (ltb-false x y e)
-
--- what raises an epoch is a Restarted, or it was 0
-raised_by : (b : Body) (mine : Bool) (told now : ℕ) → now < epoch_raised_by b mine told now
-    → (b ≡ Restarted) ⊎ (now ≡ 0)
-raised_by Restarted mine told now lt = inl refl
-raised_by (Reclaimed answer) mine told now lt = go (mine && (now == 0)) refl lt
-  where
-    go : (c : Bool) → (mine && (now == 0)) ≡ c → now < (if c then told else now)
-        → (Reclaimed answer ≡ Restarted) ⊎ (now ≡ 0)
-    go true e up = inr (eqb-true now 0 (and_parts mine (now == 0) e).1)
-    go false e up = absurd (omega (arith, up))
-raised_by _ mine told now lt = absurd (omega (arith, lt))
-
--- a Restarted raises it to its own, at least
-restarted_raises : (mine : Bool) (told now : ℕ) → mine ≡ true → told ≤ epoch_raised_by Restarted mine told now
-restarted_raises false told now e = absurd (cc)
-restarted_raises true told now e = go (nat_lt now told) refl
-  where
-    go : (c : Bool) → nat_lt now told ≡ c → told ≤ (if c then told else now)
-    go true q = omega arith
-    go false q = ltb-false now told q
-
-restarted_up : (v : ServerId) (A : List Step) (u : Step) (m : Message) → u.cause ≡ Came m → m.server ≡ v
-    → m.body ≡ Restarted → m.epoch ≤ epoch_at (u ∷ A) v
-restarted_up v A u m cause server body =
-    subst (λ (c : Cause). m.epoch ≤ epoch_raised c v (epoch_at A v)) (sym cause)
-    (subst (λ (b : Body). m.epoch ≤ epoch_raised_by b (m.server.0 == v.0) m.epoch (epoch_at A v)) (sym body)
-    (restarted_raises (m.server.0 == v.0) m.epoch (epoch_at A v)
-    (eq-eqb m.server.0 v.0 (ap (λ (y : ServerId). y.0) server))))
 
 -- # A host that has said Bye makes no give-back any more
 module _ (script : Script) (host : HostId) (g : Give) where
@@ -239,6 +200,23 @@ module _ (script : Script) (start : Tree) (firsts : ServerId → ℕ) (real : (v
       let le = (((all later past e).at v).link host).asked k.0 k.1 k.2 k.3 in
       omega (arith, up, le)
 
+  sent_on : (p : List Step) (x : Step) → WasGiven p → WasGiven (x ∷ p)
+  sent_on p x sent = own_on host (WasSent v (GiveBack g)) (λ A y o. inr o) (x ∷ []) p sent
+
+  -- where it came on the list in this epoch, its own epoch is no older
+  listed_new : (l p : List Step) → appended l p ≡ run → WasGiven p → ListedNow (acts p) host
+      → epoch (acts p) ≤ epoch_at (own p) v
+  listed_new l p whole sent listed =
+      let k = issued_to l p whole (outstanding_at l p whole sent).made in
+      let same = (knowing l p whole).now k.0 k.1 listed k.2 k.3 in
+      let at = (((all l p whole).at v).link host).asked k.0 k.1 k.2 k.3 in
+      omega (arith, same, at)
+
+  host_due : (l p : List Step) (t : Step) → appended (t ∷ l) p ≡ run → t.node ≡ Host host
+      → HostDue script host (own p) t
+  host_due l p t whole at =
+      subst (λ (k : Node). StepDue script start firsts k p t) at (dues p l t whole)
+
   -- # A step that sends it, where no later one does
   module _ (past later : List Step) (s : Step) (e : appended (s ∷ later) past ≡ run) (node : s.node ≡ Host host)
       (to : ServerId) (ep mv : ℕ) (sends : Sends s to ep mv (GiveBack g))
@@ -247,275 +225,82 @@ module _ (script : Script) (start : Tree) (firsts : ServerId → ℕ) (real : (v
     abbrev e0 : ℕ
     e0 = epoch_at (own (s ∷ past)) v
 
-    -- a place in the run after the step
-    pub record After (l p : List Step) : Type 0 where
-      pub whole : appended l p ≡ run
-      pub short : length l ≤ length later
-      pub sent : WasGiven p
-      pub above : e0 ≤ epoch_at (own p) v
+    abbrev At : List Step → List Step → Type 0
+    At l p = After WasGiven run later e0 host v l p
 
-    first : After later (s ∷ past)
-    first = record {
-      whole = e;
-      short = omega arith;
-      sent = subst (WasSent v (GiveBack g)) (sym (host_steps host s past node)) (inl (to, ep, mv, sends, tt));
-      above = omega arith;
-    }
+    marked : WasGiven (s ∷ past)
+    marked = subst (WasSent v (GiveBack g)) (sym (host_steps host s past node)) (inl (to, ep, mv, sends, tt))
 
-    module _ {l p : List Step} {t : Step} (a : After l p) (c : Cut p l t) where
-      sent_before : WasGiven c.before
-      sent_before =
-          subst WasGiven (sym c.grown)
-          (own_on host (WasSent v (GiveBack g)) (λ A x o. inr o) c.between p a.sent)
+    -- no lapse comes, and no Restarted that raises the epoch: each sends it again
+    lapse_none : (l p : List Step) (t : Step) → length l < length later → appended (t ∷ l) p ≡ run → WasGiven p
+        → t.node ≡ Host host → t.cause ≡ Lapse → ⊥
+    lapse_none l p t short whole sent at lapse =
+        resent p l t short whole at v (epoch_at (own p) v) 0
+        ((host_due l p t whole at).repeats.lapse_all v 0 (GiveBack g) lapse
+        (outstanding_at (t ∷ l) p whole sent, refl))
 
-      above_before : e0 ≤ epoch_at (own c.before) v
-      above_before =
-          subst (λ (L : List Step). e0 ≤ epoch_at (own L) v) (sym c.grown)
-          (own_on host (λ (L : List Step). e0 ≤ epoch_at L v)
-          (λ A x le. (let grows = epoch_grows A x v in omega (arith, le, grows))) c.between p a.above)
+    raise_none : (l p : List Step) (t : Step) → length l < length later → appended (t ∷ l) p ≡ run → WasGiven p
+        → t.node ≡ Host host → epoch_at (own p) v < epoch_at (t ∷ own p) v → ⊥
+    raise_none l p t short whole sent at up =
+        resent p l t short whole at v (epoch_at (t ∷ own p) v) 0
+        ((host_due l p t whole at).repeats.restarted_gives v 0 g
+        (learns_by (own p) t v (greeted_at (t ∷ l) p whole sent) (above_at (t ∷ l) p whole sent) up)
+        (outstanding_at (t ∷ l) p whole sent, refl))
 
-      whole_cut : appended (t ∷ c.after) c.before ≡ run
-      whole_cut = c.whole ∙ a.whole
+    start_at : At later (s ∷ past)
+    start_at =
+        first script start firsts real run meets due over none host live v WasGiven sent_on live_at listed_new past
+        later s e marked lapse_none raise_none
 
-      less : length c.after < length later
-      less = let short = c.short in let le = a.short in omega (arith, short, le)
+    lapses_not : (l p : List Step) → At l p → LapsesIn l (Host host) → ⊥
+    lapses_not =
+        no_lapse script start firsts real run meets due over none host live v WasGiven sent_on live_at listed_new past
+        later s e marked lapse_none raise_none
 
-      after : After c.after (t ∷ c.before)
-      after = record {
-        whole = whole_cut;
-        short = (let lt = less in omega (arith, lt));
-        sent = own_on host (WasSent v (GiveBack g)) (λ A x o. inr o) (t ∷ []) c.before sent_before;
-        above = own_on host (λ (L : List Step). e0 ≤ epoch_at L v)
-            (λ A x le. (let grows = epoch_grows A x v in omega (arith, le, grows))) (t ∷ []) c.before above_before;
-      }
+    under : (l p : List Step) → appended l p ≡ run → epoch_at (own p) v ≤ e0
+    under =
+        below script start firsts real run meets due over none host live v WasGiven sent_on live_at listed_new past
+        later s e marked lapse_none raise_none
 
-      is_out : IsOutstanding (own c.before) g
-      is_out = outstanding_at (t ∷ c.after) c.before whole_cut sent_before
+    tells_not : (l p : List Step) (t : Step) → At l (t ∷ p) → t.node ≡ Server v → SentNow t host Restarted
+        → e0 < epoch (after_cause t.cause (acts p)) → ⊥
+    tells_not l p t a at sent up =
+        tells_none script start firsts real run meets due over none host live v WasGiven sent_on live_at listed_new past
+        later s e marked lapse_none raise_none l p t (a, at, sent, up)
 
-      host_due : t.node ≡ Host host → HostDue script host (own c.before) t
-      host_due at =
-          subst (λ (k : Node). StepDue script start firsts k c.before t) at (dues c.before c.after t whole_cut)
-
-      -- no lapse comes, and no Restarted that raises the epoch: each sends it again
-      lapse_sends : t.node ≡ Host host → t.cause ≡ Lapse → ⊥
-      lapse_sends at lapse =
-          resent c.before c.after t less whole_cut at v (epoch_at (own c.before) v) 0
-          ((host_due at).repeats.lapse_all v 0 (GiveBack g) lapse (is_out, refl))
-
-      raise_sends : t.node ≡ Host host → epoch_at (own c.before) v < epoch_at (t ∷ own c.before) v → ⊥
-      raise_sends at up = elim (raised_cases t.cause v (epoch_at (own c.before) v)) [
-        | inl same ↦ absurd (omega (arith, same, up))
-        | inr f ↦ elim (raised_by f.by.body (f.by.server.0 == v.0) f.by.epoch (epoch_at (own c.before) v)
-            (subst (λ (x : Cause). epoch_at (own c.before) v < epoch_raised x v (epoch_at (own c.before) v)) f.cause
-            up)) [
-              | inl restarted ↦ resent c.before c.after t less whole_cut at v (epoch_at (t ∷ own c.before) v) 0
-                  ((host_due at).repeats.restarted_gives v 0 g (
-                    greeted_at (t ∷ c.after) c.before whole_cut sent_before,
-                    up,
-                    (f.by.epoch, f.by.moves, (f.by, f.cause, f.at, refl, refl, restarted)),
-                  ) (is_out, refl))
-              | inr zero_now ↦ (
-                  let some = above_at (t ∷ c.after) c.before whole_cut sent_before in
-                  absurd (omega (arith, some, zero_now))
-                  )
-            ]
-      ]
-
-    no_lapse : (l p : List Step) → After l p → LapsesIn l (Host host) → ⊥
-    no_lapse l p a (t, i, at, lapse) = lapse_sends a (cut l p t i) at lapse
-
-    abbrev here : (l p : List Step) (t : Step) → Cut p (t ∷ l) t
-    here l p t = record {
-      between = [];
-      before = p;
-      after = l;
-      whole = refl;
-      grown = refl;
-      short = omega arith;
-    }
-
-    step_raises : (l p : List Step) (t : Step) → After (t ∷ l) p → (n : Node) → t.node ≡ n
-        → epoch_at (own p) v < epoch_at (own_after host n t (own p)) v → ⊥
-    step_raises l p t a (Server u) at up = absurd (omega (arith, up))
-    step_raises l p t a (Host k) at up =
-        if_host (λ (L : List Step). epoch_at (own p) v < epoch_at L v → ⊥) k host (t ∷ own p) (own p)
-        (λ same lt. raise_sends a (here l p t) (at ∙ ap Host same) lt) (λ lt. absurd (omega (arith, lt))) up
-
-    raises : (l p : List Step) → After l p → epoch_at (own p) v < epoch_at (own (appended l p)) v → ⊥
-    raises [] p a lt = absurd (omega (arith, lt))
-    raises (t ∷ l) p a lt = elim (decide (epoch_at (own p) v) (epoch_at (own (t ∷ p)) v)) [
-      | inl up ↦ step_raises l p t a t.node refl up
-      | inr le ↦ raises l (t ∷ p) (after a (here l p t))
-          (let q : epoch_at (own p) v < epoch_at (own (appended l (t ∷ p))) v = lt in omega (arith, le, q))
-    ]
-
-    -- so the host's epoch has stayed as it was
-    still : epoch_at (own run) v ≤ e0
-    still = elim (decide e0 (epoch_at (own run) v)) [
-      | inl up ↦ absurd (raises later (s ∷ past) first (subst (λ (L : List Step). e0 < epoch_at (own L) v) (sym e) up))
-      | inr le ↦ le
-    ]
-
-    below : (l p : List Step) → appended l p ≡ run → epoch_at (own p) v ≤ e0
-    below l p whole =
-        let grown : epoch_at (own p) v ≤ epoch_at (own run) v =
-        subst (λ (L : List Step). epoch_at (own p) v ≤ epoch_at (own L) v) whole
-        (own_on host (λ (L : List Step). epoch_at (own p) v ≤ epoch_at L v)
-        (λ A x le. (let grows = epoch_grows A x v in omega (arith, le, grows))) l p (omega arith)) in
-        let end = still in
-        omega (arith, grown, end)
-
-    -- and it has not reclaimed in a later one
-    not_reclaimed : (l p : List Step) → appended l p ≡ run → WasGiven p → e0 < epoch (acts p)
-        → HasReclaimed (acts p) host → ⊥
-    not_reclaimed l p whole sent up r =
-        let le = below l p whole in
-        let link = ((all l p whole).at v).link host in
-        elim (reclaimed_by (acts p) host r) [
-          | inl admits ↦ (
-              let c = (knowing l p whole).claimed admits in
-              let said = link.took c.0 (Reclaim c.1) c.2 in
-              let at = ((all l p whole).alone host).said_epoch v (epoch (acts p)) c.0 (Reclaim c.1) said in
-              absurd (omega (arith, le, at, up))
-              )
-          | inr listed ↦ (
-              let k = issued_to l p whole (outstanding_at l p whole sent).made in
-              let same = (knowing l p whole).now k.0 k.1 listed k.2 k.3 in
-              let at = link.asked k.0 k.1 k.2 k.3 in
-              absurd (omega (arith, le, at, same, up))
-              )
-        ]
-
-    -- # What the server says of it
-
-    server_may : (l p : List Step) (t : Step) → appended (t ∷ l) p ≡ run → t.node ≡ Server v
-        → ServerMay script start v (steps_of_server v p) (acts p) t
-    server_may l p t whole at =
-        (subst (λ (k : Node). StepMeets script start firsts k p t) at (met l (t ∷ p) whole).1.0).0
-
-    server_due : (l p : List Step) (t : Step) → appended (t ∷ l) p ≡ run → t.node ≡ Server v
-        → ServerDue script start v (steps_of_server v p) (acts p) t
-    server_due l p t whole at =
-        subst (λ (k : Node). StepDue script start firsts k p t) at (dues p l t whole)
-
-    server_from : (l p : List Step) (t : Step) → appended (t ∷ l) p ≡ run → t.node ≡ Server v → (m : Message)
-        → In m t.sent → (m.server ≡ v) × (m.direction ≡ ToHost)
-    server_from l p t whole at m i =
-        subst (λ (k : Node). IsFrom k m) at ((met l (t ∷ p) whole).1.3 m i).0
-
-    -- what it sends to the host is taken by the host, or a lapse comes to the node that sends it again
-    server_sends : (l p : List Step) (t : Step) → appended (t ∷ l) p ≡ run → t.node ≡ Server v → (m : Message)
-        → In m t.sent → m.host ≡ host → (again : Node) → resender m ≡ again → (IsStopped run again → ⊥)
-        → LapsesIn l again ⊎ ((u : Step) × In u l × (u.cause ≡ Came m) × (u.node ≡ Host host))
-    server_sends l p t whole at m i is again re free = elim going [
-      | inl lapses ↦ inl (subst (LapsesIn l) re lapses)
-      | inr taken ↦ inr (taken.0, taken.1, taken.2, by (cut l (t ∷ p) taken.0 taken.1) taken.2)
-    ]
-      where
-        way : m.direction ≡ ToHost
-        way = (server_from l p t whole at m i).1
-
-        going : LapsesIn l (resender m) ⊎ IsTakenIn l m
-        going = comes_of script run over none p l t whole m i
-            (λ st. live (subst (IsStopped run) (ap (λ (d : Direction). receiver_by d m) way ∙ ap Host is) st))
-            (λ st. free (subst (IsStopped run) re st))
-
-        by : {u : Step} → Cut (t ∷ p) l u → u.cause ≡ Came m → u.node ≡ Host host
-        by {u = u} c cause = go u.node refl (met c.after (u ∷ c.before) (c.whole ∙ whole)).1.0
-          where
-            go : (k : Node) → u.node ≡ k → StepMeets script start firsts k c.before u → u.node ≡ Host host
-            go (Host k) e m' = e ∙ ap Host (sym (m'.1 m cause).0 ∙ is)
-            go (Server k) e m' =
-                absurd (let z : ToHost ≡ ToServer = sym way ∙ (m'.1 m cause).1 in cc)
-
-    abbrev Tells : List Step → List Step → Step → Type 0
-    Tells l p t = After l (t ∷ p) × (t.node ≡ Server v) × SentNow t host Restarted
-        × (e0 < epoch (after_cause t.cause (acts p)))
-
-    -- it can't have told of a restart
-    tells_round : (l p : List Step) (t : Step) → Tells l p t
-        → ((k q : List Step) (u : Step) → length k < length l → Tells k q u → ⊥) → ⊥
-    tells_round l p t (a, at, (m, i, is, body), up) next =
-        elim (server_sends l p t a.whole at m i is (Server m.server) (ap (λ (b : Body). resender_by b m) body)
-        (λ st. st)) [
-          | inl lapses ↦ lapsing (cut l (t ∷ p) lapses.0 lapses.1) lapses.2 lapses.3
-          | inr taken ↦ raising (cut l (t ∷ p) taken.0 taken.1) taken.2 taken.3
-        ]
-      where
-        from : (m.server ≡ v) × (m.direction ≡ ToHost)
-        from = server_from l p t a.whole at m i
-
-        is_epoch : m.epoch ≡ epoch (after_cause t.cause (acts p))
-        is_epoch = (sent_so v t (acts p) (server_may l p t a.whole at).tokens m i).2
-
-        raising : {u : Step} → Cut (t ∷ p) l u → u.cause ≡ Came m → u.node ≡ Host host → ⊥
-        raising {u = u} c cause node_u =
-            let ups = restarted_up v (own c.before) u m cause from.0 body in
-            let le = subst (λ (L : List Step). epoch_at L v ≤ e0) (host_steps host u c.before node_u)
-            (below c.after (u ∷ c.before) (c.whole ∙ a.whole)) in
-            let is_e = is_epoch in
-            absurd (omega (arith, ups, le, is_e, up))
-
-        lapsing : {u : Step} → Cut (t ∷ p) l u → u.node ≡ Server m.server → u.cause ≡ Lapse → ⊥
-        lapsing {u = u} c node_m lapse = next c.after c.before u c.short (after a c, node_u, sent, up_u)
-          where
-            node_u : u.node ≡ Server v
-            node_u = node_m ∙ ap Server from.0
-
-            up_t : e0 < epoch (acts (t ∷ p))
-            up_t =
-                subst (λ (S : List Doing). e0 < epoch S) (sym (server_doings (firsts v) v t p at))
-                (let same = epoch_step t (acts p) in omega (arith, same, up))
-
-            up_before : e0 < epoch (acts c.before)
-            up_before =
-                subst (λ (L : List Step). e0 < epoch (acts L)) (sym c.grown)
-                (doings_on (firsts v) v (λ (S : List Doing). e0 < epoch S)
-                (λ S x q. (let grows = epoch_after_step x S in omega (arith, q, grows))) c.between (t ∷ p) up_t)
-
-            up_u : e0 < epoch (after_cause u.cause (acts c.before))
-            up_u = let grows = epoch_after_cause u (acts c.before) in let q = up_before in omega (arith, q, grows)
-
-            sent : SentNow u host Restarted
-            sent =
-                (server_due c.after c.before u (c.whole ∙ a.whole) node_u).answers.restarted_again host lapse
-                (live_at (u ∷ c.after) c.before (c.whole ∙ a.whole) (sent_before a c))
-                (not_reclaimed (u ∷ c.after) c.before (c.whole ∙ a.whole) (sent_before a c) up_before)
-
-    tells_none : (fuel : ℕ) (l p : List Step) (t : Step) → length l < fuel → Tells l p t → ⊥
-    tells_none zero l p t lt tells = absurd (omega (arith, lt))
-    tells_none (suc fuel) l p t lt tells =
-        tells_round l p t tells
-        (λ k q u short more. tells_none fuel k q u (let x : length l < suc fuel = lt in omega (arith, short, x)) more)
-
-    -- nor can it have answered by Gone
-    gone_none : (l p : List Step) (t : Step) → After l (t ∷ p) → t.node ≡ Server v
+    -- the server can't have answered by Gone
+    gone_none : (l p : List Step) (t : Step) → At l (t ∷ p) → t.node ≡ Server v
         → SentNow t host (Gone (number_of g))
         → epoch (after_cause t.cause (acts p)) ≡ e0 → ⊥
     gone_none l p t a at (m, i, is, body) same =
-        elim (server_sends l p t a.whole at m i is (Host host)
-        (ap (λ (b : Body). resender_by b m) body ∙ ap Host is) live) [
-          | inl lapses ↦ no_lapse l (t ∷ p) a lapses
+        elim (server_sends script start firsts real run meets due over none host live v l p t a.whole at m i is
+        (Host host) (ap (λ (b : Body). resender_by b m) body ∙ ap Host is) live) [
+          | inl lapses ↦ lapses_not l (t ∷ p) a lapses
           | inr taken ↦ learns (cut l (t ∷ p) taken.0 taken.1) taken.2 taken.3
         ]
       where
         from : (m.server ≡ v) × (m.direction ≡ ToHost)
-        from = server_from l p t a.whole at m i
+        from = server_from script start firsts real run meets due over none host live v l p t a.whole at m i
 
         learns : {u : Step} → Cut (t ∷ p) l u → u.cause ≡ Came m → u.node ≡ Host host → ⊥
         learns {u = u} c cause node_u =
             unknown_at c.after (u ∷ c.before) (c.whole ∙ a.whole)
             (subst (λ (L : List Step). IsKnown L g) (sym (host_steps host u c.before node_u))
-            (inl ((g, (is_out a c).made, refl), inl (m, cause, from.0, present, moves, body))))
+            (inl ((g, made_then, refl), inl (m, cause, from.0, present, moves, body))))
           where
+            made_then : Made (own c.before) g
+            made_then = (outstanding_at (u ∷ c.after) c.before (whole_cut a c) (mark_before a c)).made
+
             sent : (mid : List Doing) × ServerTokens v mid (Sent m.host m.epoch m.moves m.body)
                 × (m.epoch ≡ epoch (after_cause t.cause (acts p)))
-            sent = sent_so v t (acts p) (server_may l p t a.whole at).tokens m i
+            sent =
+                sent_so v t (acts p)
+                (server_may script start firsts real run meets due over none host live v l p t a.whole at).tokens m i
 
             present : m.epoch ≡ epoch_at (own c.before) v
             present =
                 let is_e = sent.2 in
-                let le = below (u ∷ c.after) c.before (c.whole ∙ a.whole) in
+                let le = under (u ∷ c.after) c.before (whole_cut a c) in
                 let ge = above_before a c in
                 omega (arith, is_e, le, ge, same)
 
@@ -528,7 +313,7 @@ module _ (script : Script) (start : Tree) (firsts : ServerId → ℕ) (real : (v
     -- and it can't have taken the give-back
     never : ⊥
     never = elim went.2 [
-      | inl lapses ↦ no_lapse later (s ∷ past) first lapses
+      | inl lapses ↦ lapses_not later (s ∷ past) start_at lapses
       | inr taken ↦ taken_none (cut later (s ∷ past) taken.0 taken.1) taken.2
     ]
       where
@@ -555,29 +340,26 @@ module _ (script : Script) (start : Tree) (firsts : ServerId → ℕ) (real : (v
 
         by_server : {t : Step} → Cut (s ∷ past) later t → t.cause ≡ Came m → t.node ≡ Server v → ⊥
         by_server {t = t} c cause at = elim (decide e0 (epoch (acts c.before))) [
-          | inl up ↦ tells_none (suc (length c.after)) c.after c.before t (omega arith) (
-            after first c,
-            at,
-            dues_t.answers.late host m cause went.0 alive
-                (λ q. (let is_e = is_epoch in omega (arith, q, is_e, up)))
-                (λ q. (let z : GiveBack g ≡ Hello = sym sends.5 ∙ q in cc))
-                (λ q. (let z : GiveBack g ≡ Down = sym sends.5 ∙ q in cc)),
-            (let grows = epoch_after_cause t (acts c.before) in omega (arith, up, grows)),
-          )
-          | inr le ↦ gone_none c.after c.before t (after first c) at
+          | inl up ↦ tells_not c.after c.before t (after start_at c) at
+              (dues_t.answers.late host m cause went.0 alive
+              (λ q. (let is_e = is_epoch in omega (arith, q, is_e, up)))
+              (λ q. (let z : GiveBack g ≡ Hello = sym sends.5 ∙ q in cc))
+              (λ q. (let z : GiveBack g ≡ Down = sym sends.5 ∙ q in cc)))
+              (let grows = epoch_after_cause t (acts c.before) in omega (arith, up, grows))
+          | inr le ↦ gone_none c.after c.before t (after start_at c) at
               (dues_t.answers.gone host m.moves g
               ((m, cause, went.0, now le, refl, sends.5), alive) is_here)
               (caused ∙ (sym (now le) ∙ is_epoch))
         ]
           where
             whole : appended (t ∷ c.after) c.before ≡ run
-            whole = whole_cut first c
+            whole = whole_cut start_at c
 
             dues_t : ServerDue script start v (steps_of_server v c.before) (acts c.before) t
-            dues_t = server_due c.after c.before t whole at
+            dues_t = server_due script start firsts real run meets due over none host live v c.after c.before t whole at
 
             alive : IsLive (acts c.before) host
-            alive = live_at (t ∷ c.after) c.before whole (sent_before first c)
+            alive = live_at (t ∷ c.after) c.before whole (mark_before start_at c)
 
             caused : epoch (after_cause t.cause (acts c.before)) ≡ epoch (acts c.before)
             caused = ap (λ (x : Cause). epoch (after_cause x (acts c.before))) cause
@@ -585,7 +367,7 @@ module _ (script : Script) (start : Tree) (firsts : ServerId → ℕ) (real : (v
             now : epoch (acts c.before) ≤ e0 → m.epoch ≡ epoch (acts c.before)
             now le =
                 let behind = (((all (t ∷ c.after) c.before whole).at v).link host).behind in
-                let ge = above_before first c in
+                let ge = above_before start_at c in
                 let is_e = is_epoch in
                 omega (arith, le, behind, ge, is_e)
 
@@ -595,7 +377,7 @@ module _ (script : Script) (start : Tree) (firsts : ServerId → ℕ) (real : (v
                 (λ i. (to_v i, sym sends.4 i)) stays
 
         taken_none : {t : Step} → Cut (s ∷ past) later t → t.cause ≡ Came m → ⊥
-        taken_none {t = t} c cause = go t.node refl (met c.after (t ∷ c.before) (whole_cut first c)).1.0
+        taken_none {t = t} c cause = go t.node refl (met c.after (t ∷ c.before) (whole_cut start_at c)).1.0
           where
             go : (k : Node) → t.node ≡ k → StepMeets script start firsts k c.before t → ⊥
             go (Host k) at m' = absurd (let z : ToServer ≡ ToHost = sym went.1 ∙ (m'.1 m cause).1 in cc)

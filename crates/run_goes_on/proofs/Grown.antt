@@ -376,7 +376,7 @@ module _ (h : HostId) (e n : ℕ) (b : Body) where
         )
   ]
 
-  sent_cause : (c : Cause) (S : List Doing) → SentTo (after_cause c S) h e n b → SentTo S h e n b
+  pub sent_cause : (c : Cause) (S : List Doing) → SentTo (after_cause c S) h e n b → SentTo S h e n b
   sent_cause (Came m) S (inl q) = absurd (let z : Took m.host m.epoch m.moves m.body ≡ Sent h e n b = q in cc)
   sent_cause (Came m) S (inr o) = o
   sent_cause (Restart line) S (inl q) = absurd (let z : BeginsEpoch (suc (epoch S)) ≡ Sent h e n b = q in cc)

@@ -1,4 +1,4 @@
--- A Bye of a host is answered, once all that was sent is over, where the host said it once it was welcome.
+-- A Bye of a host is answered, once all that was sent is over.
 use Rattle.std.proofs.Common.{List, [], ap, arith, inl, inr, length, refl, subst, suc, sym, zero, ℕ}
 use Rattle.std.proofs.Common.{◌<◌, ◌∙◌, ◌∷◌, ◌≡◌, ◌≤◌, ◌⊎◌}
 use Rattle.base_types.specs.declared.ids.HostId.{HostId}
@@ -18,7 +18,7 @@ use Rattle.run_rules.specs.Doings.Doing.{BeginsEpoch, Flushes, Took}
 use Rattle.run_rules.specs.HostDue.{HostDue}
 use Rattle.run_rules.specs.HostMay.{AwaitsReclaimed, HostMay}
 use Rattle.run_rules.specs.Messages.{Comes, HasBye, HasGreeted, HasSaid, HasStopped, IsWelcome, Says, Sends, epoch_at}
-use Rattle.run_rules.specs.Past.{Always, appended}
+use Rattle.run_rules.specs.Past.{Always, Once, appended}
 use Rattle.run_rules.specs.Plans.{resender_by}
 use Rattle.run_rules.specs.Runs.{IsFrom, StepDue, StepMeets, StepsMeet, firsts_of, past_of}
 use Rattle.run_rules.specs.ServerDue.{ServerDue}
@@ -31,6 +31,7 @@ use Rattle.run_tokens.proofs.Words.{acts_after, if_host, if_server, own_after}
 use Rattle.run_goes_on.proofs.Answering.{claims_are_answered}
 use Rattle.run_goes_on.proofs.Arriving.{due_at, due_of, found, from_cause, from_one, host_sends, meets_at, step_on}
 use Rattle.run_goes_on.proofs.Arriving.{whole_at}
+use Rattle.run_goes_on.proofs.Calling.{byes_welcome}
 use Rattle.run_goes_on.proofs.Claiming.{IsOnList, acts_later, own_later}
 use Rattle.run_goes_on.proofs.Doings.{TookIt, epoch_after_cause, heard, listed_said}
 use Rattle.run_goes_on.proofs.Grown.{once_step}
@@ -410,10 +411,18 @@ module _ (script : Script) (start : Tree) (firsts : ServerId → ℕ) (real : (v
       (λ p l t short whole at greets more. byes_none fuel p l t
       (let x : length later < suc fuel = lt in omega (arith, short, x)) whole at greets more)
 
+says_bye : (v : ServerId) (A : List Step) → HasSaid A v Bye → Once (λ before s. Says s v Bye) A
+says_bye v [] x = elim x.2 [ ]
+says_bye v (s ∷ A) (e, n, inl sends) = inl (e, n, sends)
+says_bye v (s ∷ A) (e, n, inr said) = inr (says_bye v A (e, n, said))
+
 pub byes_are_answered : ByesAreAnswered
 byes_are_answered script journal q host live v said unbyed =
-    let f = found host (λ before s. IsWelcome before v × Says s v Bye) journal.steps said in
-    byes_none script q.run.start (firsts_of journal) (λ u. from_one _) (past_of journal) q.run.steps
-    (due_of script journal q.run q.dutiful) q.over q.none_held host live v unbyed
-    (λ stays. claims_are_answered script journal q host live v stays) (suc (length f.after)) f.before f.after f.step
-    (omega arith) f.whole f.node f.here.0 f.here.1
+    let due = due_of script journal q.run q.dutiful in
+    let f = found host (λ before s. Says s v Bye) journal.steps
+    (says_bye v (steps_of_host host (past_of journal)) said) in
+    byes_none script q.run.start (firsts_of journal) (λ u. from_one _) (past_of journal) q.run.steps due q.over
+    q.none_held host live v unbyed (λ stays. claims_are_answered script journal q host live v stays)
+    (suc (length f.after)) f.before f.after f.step (omega arith) f.whole f.node
+    (byes_welcome script q.run.start (firsts_of journal) (past_of journal) q.run.steps due host v f.after f.before
+    f.step f.whole f.node f.here) f.here

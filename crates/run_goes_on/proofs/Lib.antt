@@ -1,4 +1,6 @@
+pub mod Needing
 pub mod Positions
+pub mod Calling
 pub mod Calls
 pub mod Posted
 pub mod Staying
@@ -18,3 +20,15 @@ pub mod Granting
 pub mod Owing
 pub mod Resting
 pub mod Done
+pub mod Queueing
+pub mod Numbering
+pub mod Requests
+pub mod Meaning
+pub mod Standing
+pub mod Deciding
+pub mod Unblocking
+pub mod Shutting
+pub mod Closing
+pub mod Ending
+pub mod Rested
+pub mod Worked

@@ -176,7 +176,7 @@ module _ (script : Script) (journal : Journal) (q : IsQuiet script journal) (res
         let line : Line = next.0 in
         absurd (rests.lines (Host host) line part (record {
           next = (next.2, refl);
-          met = λ flag is. awaits (Host host) line flag (next.2, refl) is;
+          met = λ flag is. awaits (Host host) line flag part (next.2, refl) is;
           free = λ h same. (
               let at : host ≡ h = cc in
               (subst (λ (k : HostId). IsFree script k A) at free, λ other. done (λ is. other (sym at ∙ is)))

@@ -131,7 +131,7 @@ module _ (script : Script) (start : Tree) (firsts : ServerId → ℕ) (run : Lis
         go (Host k) at m' = absurd (let z : ToServer ≡ ToHost = sym from.1 ∙ (m'.1 m cause).1 in cc)
         go (Server k) at m' = by_server (at ∙ ap Server (sym (m'.1 m cause).0 ∙ says.2.2))
 
-    down : HasGoneDown (acts run) host
+    pub down : HasGoneDown (acts run) host
     down = hears (cut f.after (f.step ∷ f.before) taken.0 taken.1) taken.2
 
   pub stopped_away : HasStopped (steps_of_host host run) → IsLive (acts run) host → ⊥

@@ -1,33 +1,34 @@
 -- When nothing more can happen in a run: what was sent has come, no lapse is due, and no line, eviction or end can go.
-use Rattle.std.specs.Prelude.{List, drop, filter, length, true, ℕ, ◌∷◌, ◌≡◌, ◌≢◌, ◌⊎◌}
+use Rattle.std.specs.Prelude.{List, drop, filter, length, ℕ, [], ◌∷◌, ◌≡◌, ◌≢◌, ◌⊎◌}
 use Rattle.base_types.specs.declared.ids.HostId.{HostId}
 use Rattle.base_types.specs.declared.ids.Node.{Node}
 use Rattle.base_types.specs.declared.ids.Node.TheVariants.{Host, Server}
 use Rattle.base_types.specs.declared.ids.ServerId.{ServerId}
+use Rattle.tree_answers.specs.declared.tree.Tree.{Tree}
 use Rattle.token_types.specs.declared.token.Token.{Token}
 use Rattle.script_lines.specs.declared.script.Deed.TheVariants.{Await}
 use Rattle.script_lines.specs.declared.script.Line.{Line}
 use Rattle.script_lines.specs.declared.script.Script.{Script}
-use Rattle.message_types.specs.declared.asking.Change.{Change as ChangeOf}
 use Rattle.message_types.specs.declared.giving.Give.{Give}
 use Rattle.message_types.specs.declared.message.Body.TheVariants.{Bye}
 use Rattle.message_types.specs.declared.message.Message.{Message}
 use Rattle.run_rules.specs.Doings.{Doing, Reserved, doings_of}
+use Rattle.run_rules.specs.Doings.Doing.{Flushes}
 use Rattle.run_rules.specs.HostTokens.{MayEvict}
+use Rattle.run_rules.specs.Kept.{filesets_kept}
 use Rattle.run_rules.specs.Messages.{HasGreeted, HasSaid, HasStopped}
 use Rattle.run_rules.specs.Past.{In, appended}
 use Rattle.run_rules.specs.Plans.{MayCome, Posting, posted, receiver, resender, sent_in, ways_in}
 use Rattle.run_rules.specs.Runs.{HostIsDone, IsRaised, TakesPart, firsts_of, past_of}
-use Rattle.run_rules.specs.Steps.{IsNextLine, is_node, limit_of, lines_gone, lines_of, setup, steps_of_host}
+use Rattle.run_rules.specs.ServerDue.{HasDecided}
+use Rattle.run_rules.specs.Steps.{IsNextLine, bare, is_node, limit_of, lines_gone, lines_of, setup, steps_of_host}
+use Rattle.run_rules.specs.Steps.{steps_of_server}
 use Rattle.run_rules.specs.Tokens.{Held, IsKnown, LabelInUse, Made, NoneOpen}
-use Rattle.run_rules.specs.Wants.{CanDecide, IsQueued, moves_fileset}
-use Rattle.run_rules.specs.declared.applied.Request.TheVariants.{Change as Changes}
-use Rattle.run_rules.specs.declared.applied.Wanted.{Wanted}
 use Rattle.run_rules.specs.declared.fate.Fate.TheVariants.{Lost as IsLost}
 use Rattle.run_rules.specs.declared.fate.Way.{Way}
 use Rattle.run_rules.specs.declared.fate.Way.TheVariants.{Held as IsHeld}
 use Rattle.run_rules.specs.declared.journal.Journal.{Journal}
-use Rattle.run_rules.specs.declared.step.Cause.TheVariants.{Lapse, Message as Came}
+use Rattle.run_rules.specs.declared.step.Cause.TheVariants.{Flushed, Lapse, Message as Came}
 use Rattle.run_rules.specs.declared.step.Labelled.{Labelled}
 use Rattle.run_rules.specs.declared.step.Step.{Step}
 
@@ -97,16 +98,15 @@ pub record CanEnd (script : Script) (host : HostId) (past : List Step) : Type 0 
   pub free : IsFree script host past
   pub left : HasToEnd past
 
--- nothing is left to do at a server: its exporter keeps no token, and what waits can't be decided, but for a move
-pub record ServerRests (server : ServerId) (past : List Doing) : Type 0 where
+-- A flush would do nothing at a server: its exporter keeps no token, and on these kept filesets nothing is left to
+-- decide.
+pub record ServerRests (server : ServerId) (tree : Tree) (past : List Doing) : Type 0 where
   pub flushed : (token : Token) → Reserved past token → ⊥
-  pub decided : (w : Wanted) → IsQueued past w → CanDecide server past w
-      → (change : ChangeOf) × (w.request ≡ Changes change) × (moves_fileset change.call ≡ true)
+  pub decided : HasDecided server tree past (Flushes ∷ past) (bare (Server server) Flushed)
 
--- # The run rests: nothing more can happen
+-- # The run rests: no node does anything more by itself
 
 pub record RunRests (script : Script) (journal : Journal) : Type 0 where
-  pub over : AllIsOver script (past_of journal)
   pub lines : (node : Node) (line : Line) → TakesPart script node
       → LineCanGo script (past_of journal) (filter (λ s. is_node s.node node) (past_of journal)) node line → ⊥
   pub evictions : (host : HostId) → TakesPart script (Host host)
@@ -114,5 +114,6 @@ pub record RunRests (script : Script) (journal : Journal) : Type 0 where
       → MayEvict (steps_of_host host (past_of journal)) (limit_of script.roster host) → ⊥
   pub ends : (host : HostId) → TakesPart script (Host host)
       → CanEnd script host (steps_of_host host (past_of journal)) → ⊥
-  pub servers : (server : ServerId) → TakesPart script (Server server)
-      → ServerRests server (doings_of (firsts_of journal server) server (past_of journal))
+  pub servers : (start : Tree) (server : ServerId) → journal.start ≡ start ∷ [] → TakesPart script (Server server)
+      → ServerRests server (filesets_kept start server (steps_of_server server (past_of journal)))
+      (doings_of (firsts_of journal server) server (past_of journal))

@@ -13,7 +13,7 @@ use Rattle.message_types.specs.declared.message.Body.{Body}
 use Rattle.message_types.specs.declared.message.Body.TheVariants.{Bye, Change, Fetch, Hello}
 use Rattle.run_rules.specs.Doings.{Hears, doings_of}
 use Rattle.run_rules.specs.HostDue.{IsUnanswered}
-use Rattle.run_rules.specs.Messages.{HasGreeted, HasSaid, HasStopped, IsWelcome, Says}
+use Rattle.run_rules.specs.Messages.{HasGreeted, HasSaid, HasStopped}
 use Rattle.run_rules.specs.Past.{Once}
 use Rattle.run_rules.specs.Runs.{HostIsDone, IsRaised, TakesPart, firsts_of, past_of}
 use Rattle.run_rules.specs.Steps.{IsNextLine, is_node, lines_gone, lines_of, setup, steps_of_host}
@@ -49,7 +49,7 @@ OpenCallsStandAtServers =
 
 -- no node's next line awaits a flag that isn't raised
 abbrev pub NoneAwaits : Script → List Step → Type 0
-NoneAwaits script run = (node : Node) (line : Line) (flag : List ℕ)
+NoneAwaits script run = (node : Node) (line : Line) (flag : List ℕ) → TakesPart script node
     → IsNextLine (lines_of script node) (filter (λ s. is_node s.node node) run) line.number line
     → line.deed ≡ Await flag → IsRaised script run flag
 
@@ -72,16 +72,10 @@ HostsComeToTheirEnd =
     → (host ≢ setup → HostIsDone script setup (past_of journal))
     → HasComeToItsEnd script host (steps_of_host host (past_of journal))
 
--- the host said Bye to each server when it was welcome there
-abbrev pub SaysByeWelcome : List Step → Type 0
-SaysByeWelcome past = (server : ServerId) → HasSaid past server Bye
-    → Once (λ before s. IsWelcome before server × Says s server Bye) past
-
--- And where it said each Bye when it was welcome, it has each server's Bye: it is done.
+-- and each server that it greeted has said Bye to it: it is done
 abbrev pub HostsAreDone : Type 0
 HostsAreDone =
     (script : Script) (journal : Journal) → IsQuiet script journal → RunRests script journal
     → NoneAwaits script (past_of journal) → (host : HostId) → TakesPart script (Host host)
     → (HasStopped (steps_of_host host (past_of journal)) → ⊥) → NoneOpen (steps_of_host host (past_of journal))
-    → (host ≢ setup → HostIsDone script setup (past_of journal))
-    → SaysByeWelcome (steps_of_host host (past_of journal)) → HostIsDone script host (past_of journal)
+    → (host ≢ setup → HostIsDone script setup (past_of journal)) → HostIsDone script host (past_of journal)

@@ -11,7 +11,7 @@ use Rattle.message_types.specs.declared.message.Body.TheVariants.{Bye, Change, F
 use Rattle.run_rules.specs.Doings.{HasGoneAway, Hears, NoGrace, doings_of}
 use Rattle.run_rules.specs.HostDue.{IsUnanswered}
 use Rattle.run_rules.specs.HostMay.{AwaitsReclaimed}
-use Rattle.run_rules.specs.Messages.{HasBye, HasStopped, IsWelcome, Says}
+use Rattle.run_rules.specs.Messages.{HasBye, HasSaid, HasStopped}
 use Rattle.run_rules.specs.Past.{Once, appended}
 use Rattle.run_rules.specs.Runs.{IsDutiful, IsRun, firsts_of, past_of}
 use Rattle.run_rules.specs.ServerMay.{IsOwed}
@@ -86,12 +86,12 @@ GreetingsAreAnswered =
     → (HasGoneAway (doings_of (firsts_of journal server) server (past_of journal)) host → ⊥)
     → IsUnanswered (steps_of_host host (past_of journal)) server moves Hello → ⊥
 
--- nor a Bye that a host said when it was welcome
+-- nor a Bye
 abbrev pub ByesAreAnswered : Type 0
 ByesAreAnswered =
     (script : Script) (journal : Journal) → IsQuiet script journal → (host : HostId)
     → (HasStopped (steps_of_host host (past_of journal)) → ⊥) → (server : ServerId)
-    → Once (λ before s. IsWelcome before server × Says s server Bye) (steps_of_host host (past_of journal))
+    → HasSaid (steps_of_host host (past_of journal)) server Bye
     → (HasBye (steps_of_host host (past_of journal)) server → ⊥) → ⊥
 
 -- So no grace period stands: each host that is live at a server has reclaimed in its epoch.

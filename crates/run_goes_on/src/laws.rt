@@ -1,7 +1,9 @@
+ghost use Rattle.run_goes_on.specs.Ended.{EndedRunsRest, NoCallsAreOpen, NoWantsWait, RequestsStandAsWants, RunsEnd};
 ghost use Rattle.run_goes_on.specs.Resting.{HostsAreDone, HostsComeToTheirEnd, OpenCallsStandAtServers};
 ghost use Rattle.run_goes_on.specs.Waiting.{ByesAreAnswered, ClaimsAreAnswered, GivesAreKnown, GreetingsAreAnswered};
 ghost use Rattle.run_goes_on.specs.Waiting.{NoGracePeriodStands, NothingIsOwed, OpenCallsAwaitAnswers};
 ghost use Rattle.run_goes_on.specs.Waiting.{WhatWaitsHasCome};
+ghost use Rattle.run_goes_on.specs.Worked.{RestsWhole};
 
 /// After each step of a run a host that has an open call, and hasn't stopped, awaits an answer: a message of it is
 /// outstanding, which each lapse sends again. Refused: a call that waits for nothing.
@@ -33,8 +35,8 @@ pub fn greetings_are_answered()
     ensures { GreetingsAreAnswered }
 {}
 
-/// Nor a Bye that its host said when it was welcome. Refused: a Bye of an older epoch that a server passes over; one
-/// that isn't said again once the host has claimed in the new epoch.
+/// Nor a Bye. Refused: a Bye of an older epoch that a server passes over; one that isn't said again once the host has
+/// claimed in the new epoch; one to a server that hasn't welcomed the host yet.
 pub fn byes_are_answered()
     ensures { ByesAreAnswered }
 {}
@@ -46,8 +48,8 @@ pub fn no_grace_period_stands()
     ensures { NoGracePeriodStands }
 {}
 
-/// And no server waits for a token that it asked back. Refused: a Revoke that is lost and not said again; one that a host
-/// doesn't answer; an answer that is lost, for which nobody asks again.
+/// And no server waits for a token that it asked back. Refused: a Revoke that is lost and not said again; one that a
+/// host doesn't answer; an answer that is lost, for which nobody asks again.
 pub fn nothing_is_owed()
     ensures { NothingIsOwed }
 {}
@@ -65,7 +67,45 @@ pub fn hosts_come_to_their_end()
     ensures { HostsComeToTheirEnd }
 {}
 
-/// And where it said each Bye when it was welcome it is done: each server that it greeted has said Bye to it.
+/// And each server that it greeted has said Bye to it: it is done. Refused: a server that doesn't answer a Bye.
 pub fn hosts_are_done()
     ensures { HostsAreDone }
+{}
+
+/// Where all that was sent is over, a request that is outstanding isn't without its want at its server. Refused: a
+/// request that is passed over; an answer that is lost, and isn't asked for again; a want that a restart forgets, and
+/// that isn't asked for anew; a repeated Change that is neither decided nor answered.
+pub fn requests_stand_as_wants()
+    ensures { RequestsStandAsWants }
+{}
+
+/// In a run that rests, in which no move of a fileset waits, no want waits: each token in the way of the first one came
+/// back, or is pinned. Refused: a token in the way that isn't asked back; wants that wait for one another.
+pub fn no_wants_wait()
+    ensures { NoWantsWait }
+{}
+
+/// So no host has an open call there, but one that has stopped. Refused: a request that is meant so that no server
+/// answers it.
+pub fn no_calls_are_open()
+    ensures { NoCallsAreOpen }
+{}
+
+/// So a run in which nothing more can happen is ended: each host is done, each server's lines have gone, and each host
+/// that a server knows is away; where no held message and no line waits for a flag that isn't raised, and no move of a
+/// fileset waits. Refused: a late Bye of a live host that is answered by Bye; a stop of which a server doesn't hear.
+pub fn runs_end()
+    ensures { RunsEnd }
+{}
+
+/// And the other way round: where a run is ended, and what its servers wrote down is on their disks, it rests, no line
+/// awaits a flag, and no move waits. Refused: a rest that no ended run comes to.
+pub fn ended_runs_rest()
+    ensures { EndedRunsRest }
+{}
+
+/// All that these laws ask for is so of a run of two hosts, from its first step to its end, over a restart. Refused: a
+/// premise that no run meets.
+pub fn a_run_rests()
+    ensures { RestsWhole }
 {}

@@ -44,8 +44,9 @@ use Rattle.run_rules.specs.declared.step.Step.{Step}
 
 -- What a server says only where it was asked.
 pub record OnlyAnswers (past : List Doing) (s : Step) : Type 0 where
-  -- a Bye answers a Bye of a host that isn't down
+  -- a Bye answers a Bye of a host that isn't down; where the host is live, one with which it goes away
   pub bye_only : (h : HostId) → SentNow s h Bye → HeardNow s h Bye × (HasGoneDown past h → ⊥)
+      × (IsLive past h → (n : ℕ) × TakenNow past s h n Bye)
   -- a Reclaimed answers the Hello of a host that isn't down, and that isn't live since an older epoch: such a host has
   -- to claim first; or it answers a claim that the step admits, or one of a host that has reclaimed in this epoch
   pub reclaimed_only : (h : HostId) (answer : ReclaimedOf) → SentNow s h (Reclaimed answer)

@@ -46,7 +46,7 @@ pub(crate) fn push_spelled(out: &mut Items<u8>, bytes: &[u8]) -> Result<(), NoMe
     let mut from = 0;
     for (at, byte) in bytes.iter().enumerate() {
         if is_escaped(*byte) {
-            out.extend(&bytes[from..at])?;
+            push_piece(out, &bytes[from..at])?;
             push_byte(out, *byte)?;
             from = at + 1;
         }
@@ -54,11 +54,22 @@ pub(crate) fn push_spelled(out: &mut Items<u8>, bytes: &[u8]) -> Result<(), NoMe
     out.extend(&bytes[from..])
 }
 
-// Whether a byte stands between quotes by an escape.
+// Adds a piece, which is empty where one escape follows the other.
+fn push_piece(out: &mut Items<u8>, piece: &[u8]) -> Result<(), NoMemory>
+    ensures { OnOk result (out.new ≡ out.old ++ piece.now) }
+{
+    if piece.is_empty() {
+        Ok(())
+    } else {
+        out.extend(piece)
+    }
+}
+
+// Whether a byte stands between quotes by an escape. Small letters, which most bytes of a text are, are told first.
 fn is_escaped(byte: u8) -> bool
     ensures { IsFalse result → spelled_byte byte [] ≡ byte ∷ [] }
 {
-    byte < 32 || byte > 126 || byte == b'"' || byte == b'\\'
+    !matches!(byte, b'a'..=b'z') && (byte < 32 || byte > 126 || byte == b'"' || byte == b'\\')
 }
 
 // Adds a byte as it stands between quotes.

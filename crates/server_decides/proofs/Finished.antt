@@ -60,8 +60,8 @@ revoked_latest : (m : Manager) (ids : List TokenId) → (all_revoked m ids).late
 revoked_latest m [] = refl
 revoked_latest m (id ∷ ids) = revoked_latest (after_revoked m id) ids
 
-module _ (view : View) where
-  asked_served : (x : Tables) (rs : List Asking) → IsServed x view.state → IsServed (asked_all x rs) view.state
+module _ (state : StoreState) where
+  asked_served : (x : Tables) (rs : List Asking) → IsServed x state → IsServed (asked_all x rs) state
   asked_served x [] s = s
   asked_served x (r ∷ rs) s = asked_served (asked x r.revoke) rs (record {
     store = record { server = s.store.server; roster = s.store.roster };
@@ -80,9 +80,9 @@ module _ (view : View) where
   })
 
   pub back_served : (x y : Tables) (d : Draft) (ts : List Token) → y ≡ (asking_back x d ts).tables
-      → IsServed x view.state → IsServed y view.state
+      → IsServed x state → IsServed y state
   back_served x y d ts e s =
-      subst (λ (z : Tables). IsServed z view.state) (sym e) (asked_served x (askings x.stamp ts) s)
+      subst (λ (z : Tables). IsServed z state) (sym e) (asked_served x (askings x.stamp ts) s)
 
 -- # The end
 

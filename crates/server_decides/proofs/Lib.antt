@@ -3,9 +3,12 @@ pub mod Steps
 pub mod Parts
 pub mod Heard
 pub mod Finished
+pub mod Gathered
+pub mod Idle
 pub mod Saying
 pub mod Onward
 pub use Rattle.server_says.proofs.Acting
+pub use Rattle.server_says.proofs.GivenAgain
 pub use Rattle.server_says.proofs.Asking
 pub use Rattle.server_says.proofs.Granting
 pub use Rattle.server_says.proofs.Numbers

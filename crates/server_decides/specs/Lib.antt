@@ -1,5 +1,6 @@
 pub mod Deciding
 pub mod Finishing
+pub mod Gathering
 pub mod Running
 pub mod Saying
 pub mod Sending

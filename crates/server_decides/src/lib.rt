@@ -7,6 +7,6 @@ mod finishing;
 mod sending;
 
 pub use deciding::{Decision, Due};
-pub use finishing::{finish, take_and_finish};
+pub use finishing::{GIVES_MAX, finish, store_all, take_and_finish, take_or_gather};
 pub use sending::Sending;
 pub use server_says::{Draft, ExporterFault, Keeper, bare, begin_epoch, hail_step, lapse_step};

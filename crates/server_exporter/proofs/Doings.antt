@@ -44,7 +44,7 @@ use Rattle.server_decides.specs.Asking.{Asks, change_refused, is_own, server_of}
 use Rattle.server_decides.proofs.Acting.{drafts_stand}
 use Rattle.server_decides.proofs.Asking.{changes_are_told}
 use Rattle.server_decides.proofs.Repeating.{acts_are_steady}
-use Rattle.server_decides.specs.Acts.{IsRepeatable, doing, next_number, numbered_at}
+use Rattle.server_decides.specs.Acts.{IsLimited, IsRepeatable, doing, next_number, numbered_at}
 
 -- # A Change that isn't refused is about the server's own filesets
 
@@ -90,6 +90,16 @@ few_hosts tree state host k known =
     let most : length tree.roster.hosts ≤ HOSTS_MAX = leb-true (length tree.roster.hosts) HOSTS_MAX
     (and_parts _ _ four.0).1 in
     omega (arith, roster, most)
+
+-- a store that keeps a tree keeps no more than it has room for
+pub limited_by : (tree : Tree) (state : StoreState) → StandsFor tree state → IsLimited state
+limited_by tree state k =
+    let four = and_parts _ _ (and_parts _ _ (and_parts _ _ k.formed.roster).0).0 in
+    let most : length tree.roster.hosts ≤ HOSTS_MAX = leb-true (length tree.roster.hosts) HOSTS_MAX
+    (and_parts _ _ four.0).1 in record {
+      limits = k.keeps.storable.limits;
+      hosts = subst (λ (r : Roster). length r.hosts ≤ HOSTS_MAX) (sym k.keeps.roster) most;
+    }
 
 module _ (tree : Tree) (st : StoreState) (host : HostId) (user : User) (c : ChangeOf) (asks : Asks tree st host user c)
     (accepted : NotRefused tree host c) (enters : c.enter ≡ false) (decided : IsDecided c.call) where

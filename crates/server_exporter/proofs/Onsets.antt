@@ -62,6 +62,7 @@ pub record SaysAtOnce (server : ServerId) (past : List Doing) (s : Step) (sent :
       → HasReclaimed past h → (answer : ReclaimedOf) × (k : ℕ) × SentTo past h (epoch past) k (Reclaimed answer)
       × SaysTo sent h (Reclaimed answer)
   pub bye_only : (h : HostId) → SaysTo sent h Bye → HeardNow s h Bye × (HasGoneDown past h → ⊥)
+      × (IsLive past h → (n : ℕ) × TakenNow past s h n Bye)
   pub reclaimed_only : (h : HostId) (answer : ReclaimedOf) → SaysTo sent h (Reclaimed answer)
       → (HeardNow s h Hello × (HasGoneDown past h → ⊥) × ((IsLive past h → ⊥) ⊎ ListedNow past h))
       ⊎ ((n : ℕ) × (claim : ReclaimOf) × TakenNow past s h n (Reclaim claim) × HasReclaimed past h)

@@ -201,8 +201,9 @@ module _ (server : ServerId) (tree : Tree) (past : List Doing) (m : Message) whe
         gone = λ h n g t here. absurd (no_give s e h n g t);
         gone_only = λ h n q. absurd (let k = sym body ∙ (its h _ q).1 in cc);
         claim_again = λ h n c t r. absurd (no_claim s e h n c t);
-        bye_only = λ h q. subst (λ (z : HostId). HeardNow s z Bye × (HasGoneDown past z → ⊥))
-            (sym host ∙ (its h _ q).0) ((m, e, refl, bye), up);
+        bye_only = λ h q. subst (λ (z : HostId). HeardNow s z Bye × (HasGoneDown past z → ⊥)
+            × (IsLive past z → (n : ℕ) × TakenNow past s z n Bye)) (sym host ∙ (its h _ q).0)
+            ((m, e, refl, bye), up, λ l. (m.moves, ((m, e, refl, now l, refl, bye), l)));
         reclaimed_only = λ h a q. absurd (let k = sym body ∙ (its h _ q).1 in cc);
         repeats = λ h n c d t here f k last done. absurd (no_ask s e h n (Changes c) t);
         dones_only = λ h d q. absurd (let k = sym body ∙ (its h _ q).1 in cc);

@@ -1,6 +1,8 @@
 pub mod Machines
 pub mod Stores
+pub use Rattle.server_decides.specs.Acts
 pub use Rattle.server_decides.specs.ExporterFault
+pub use Rattle.server_decides.specs.Gathering
 pub use Rattle.server_decides.specs.Keeper
 pub use Rattle.server_decides.specs.Keepers
 pub use Rattle.server_decides.specs.Messages

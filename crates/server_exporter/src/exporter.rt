@@ -1,13 +1,15 @@
-ghost use Rattle.std.specs.Prelude.{◌≡◌, true, [], IfOk, OnOk};
+ghost use Rattle.std.specs.Prelude.{◌≡◌, ◌↔◌, true, [], IfOk, IsTrue, OnOk};
 ghost use Rattle.base_types.specs.declared.ids.Node.TheVariants.{Server};
 ghost use Rattle.run_rules.specs.Steps.{bare};
 ghost use Rattle.run_rules.specs.declared.step.Cause.TheVariants.{Flushed, Lapse, Line, Message as Came, Restart};
-ghost use Rattle.server_decides.specs.Acts.{epoch_begun};
+ghost use Rattle.server_decides.specs.Acts.{IsLimited, epoch_begun};
+ghost use Rattle.server_decides.specs.Gathering.{AreGives, IsStoredOrSame};
 ghost use Rattle.server_decides.specs.Keepers.{GoesOn, HasTried, IsFit};
 ghost use Rattle.server_tables.specs.Counting.{IsCounted};
 ghost use Rattle.server_tables.specs.Sound.{AreSound};
 ghost use Rattle.server_tables.specs.Updates.{begun};
 ghost use Rattle.server_decides.specs.Messages.{IsFor};
+ghost use Rattle.store_acts.specs.Acts.{state_after};
 ghost use Rattle.store_state.specs.declared.state.StoreState.{StoreState};
 ghost use Rattle.tree_answers.specs.declared.tree.Tree.{Tree};
 ghost use Rattle.server_decides.specs.Hailing.{restarting};
@@ -28,15 +30,16 @@ ghost use Rattle.server_exporter.specs.Machines.{
 ghost use Rattle.server_decides.specs.Serving.{IsServed};
 
 use crate::stepping::step_if_stored;
-use base_types::{NoMemory, ServerId};
+use base_types::{Items, NoMemory, ServerId};
 use message_types::Message;
 use run_rules::{Cause, Step};
 use server_decides::{
-    Draft, ExporterFault, Keeper, bare, begin_epoch, finish, hail_step, lapse_step, take_and_finish,
+    Draft, ExporterFault, Keeper, bare, begin_epoch, finish, hail_step, lapse_step,
+    take_and_finish, take_or_gather,
 };
 use server_tables::Tables;
 use std::alloc::Global;
-use store_memory::Store;
+use store_memory::{Act, Store};
 use tree_calls::Roster;
 
 /// A server's machine. Each call that answers a step has given the step's acts to the store, so that the step may enter
@@ -89,6 +92,13 @@ impl Exporter {
         self.tables.hosts.is_alone()
     }
 
+    /// Whether no want waits to be answered. It takes no memory.
+    pub fn is_free(&self) -> bool
+        ensures { IsTrue result ↔ (self.now.tables.pending ≡ []) }
+    {
+        self.tables.pending.is_empty()
+    }
+
     /// Takes a message that is addressed to the server and sound.
     pub fn take<S: Store>(
         &mut self,
@@ -114,6 +124,44 @@ impl Exporter {
         let server = self.tables.server;
         let mut draft = Draft::new(self.tables.alloc());
         let made = take_and_finish(&mut self.tables, keeper, &mut draft, &message);
+        let step = draft.into_step(server, Cause::Message(message));
+        step_if_stored(&mut self.rested, made, step)
+    }
+
+    /// Takes a message as `take` does, but that what a give-back brings may wait to be stored, behind what waits
+    /// already, up to `GIVES_MAX` of them: then its step may enter the journal, and its messages leave, once nothing
+    /// waits. Where the store has to be asked what waits is stored first.
+    pub fn gather<S: Store>(
+        &mut self,
+        keeper: &mut Keeper<S>,
+        waiting: &mut Items<Act>,
+        message: Message,
+    ) -> Result<Step, ExporterFault>
+        requires given { IsFor self.old.tables.server self.old.tables.roster message }
+        requires rested { self.old.rested ≡ true }
+        requires served { IsServed self.old.tables (S.view keeper.old.store).state }
+        requires gives { AreGives (S.view keeper.old.store).state waiting.old }
+        requires fit { IsFit (S.view keeper.old.store) keeper.old.left }
+        ensures meets { S.tells → IsLimited (S.view keeper.old.store).state → IfOk result
+            (Meets (state_after (S.view keeper.old.store).state waiting.old) self.old) }
+        ensures follows { S.tells → IsLimited (S.view keeper.old.store).state → IfOk result (λ step.
+            Follows (state_after (S.view keeper.old.store).state waiting.old) self.old step
+            (state_after (S.view keeper.new.store).state waiting.new) self.new) }
+        ensures cause { IfOk result (λ step. step.cause ≡ Came message) }
+        ensures node { IfOk result (λ step. step.node ≡ Server self.old.tables.server) }
+        ensures sends { AreSound self.old.tables → IfOk result (Says self.old.tables) }
+        ensures served { OnOk result (IsServed self.new.tables (S.view keeper.new.store).state) }
+        ensures gives { OnOk result (AreGives (S.view keeper.new.store).state waiting.new) }
+        ensures stays { OnOk result
+            (IsStoredOrSame S.tells (S.view keeper.old.store).state (S.view keeper.new.store).state waiting.new) }
+        ensures same { OnOk result (IsSame self.old self.new) }
+        ensures sound { AreSound self.old.tables → OnOk result (AreSound self.new.tables) }
+        ensures tried { HasTried result (S.view keeper.old.store) (S.view keeper.new.store) keeper.new.left }
+        ensures went { S.tells → GoesOn (S.view keeper.old.store) (S.view keeper.new.store) }
+    {
+        let server = self.tables.server;
+        let mut draft = Draft::new(self.tables.alloc());
+        let made = take_or_gather(&mut self.tables, keeper, waiting, &mut draft, &message);
         let step = draft.into_step(server, Cause::Message(message));
         step_if_stored(&mut self.rested, made, step)
     }

@@ -6,4 +6,4 @@ mod exporter;
 mod stepping;
 
 pub use exporter::Exporter;
-pub use server_decides::{ExporterFault, Keeper};
+pub use server_decides::{ExporterFault, GIVES_MAX, Keeper, store_all};

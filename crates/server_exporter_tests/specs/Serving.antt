@@ -8,6 +8,7 @@ use Rattle.server_looks.specs.Keepers.{IsFit}
 use Rattle.server_looks.specs.declared.keeper.Keeper.{Keeper}
 use Rattle.server_tables.specs.declared.tables.Tables.{Tables}
 use Rattle.server_exporter.specs.Messages.{IsStoreOf}
+use Rattle.server_exporter.specs.Gathering.{AreGives}
 use Rattle.server_exporter.specs.Serving.{IsServed}
 use Rattle.server_exporter_tests.specs.declared.machine.Machine.{Machine}
 
@@ -27,4 +28,5 @@ pub record IsKept (tables : Tables) (keeper : Keeper MapStore) : Type 0 where
 -- a machine's tables are those of its store's server, which may be asked and written
 pub record Works (machine : Machine) : Type 0 where
   pub served : IsServed machine.exporter.tables (map_view machine.keeper.store).state
+  pub gives : AreGives (map_view machine.keeper.store).state machine.waiting
   pub fit : IsFit (map_view machine.keeper.store) machine.keeper.left

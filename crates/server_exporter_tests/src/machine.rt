@@ -8,11 +8,12 @@ use crate::stepping::push_step;
 use crate::storing::look;
 use crate::wording::message;
 use anyhow::{Result, bail};
+use base_types::Items;
 use message_types::Message;
-use server_exporter::{Exporter, Keeper};
+use server_exporter::{Exporter, Keeper, store_all};
 use std::alloc::Global;
 use std::mem::replace;
-use store_memory::MapStore;
+use store_memory::{Act, MapStore};
 use tree_calls::Roster;
 use tree_test_words::{Text, Words};
 
@@ -21,6 +22,8 @@ use tree_test_words::{Text, Words};
 pub struct Machine {
     pub exporter: Exporter,
     pub keeper: Keeper<MapStore>,
+    /// What waits to be stored.
+    pub waiting: Items<Act>,
 }
 
 impl Machine {
@@ -43,6 +46,7 @@ impl Machine {
         Ok(Machine {
             exporter,
             keeper: Keeper::new(store),
+            waiting: Items::new(alloc),
         })
     }
 }
@@ -93,7 +97,9 @@ fn take(machine: &mut Machine, words: &mut Words, text: &mut Text) -> Result<()>
         drop(message);
         bail!("not to be taken");
     }
-    let step = machine.exporter.take(&mut machine.keeper, message)?;
+    let step = machine
+        .exporter
+        .gather(&mut machine.keeper, &mut machine.waiting, message)?;
     push_step(text, &step);
     drop(step);
     Ok(())
@@ -104,6 +110,7 @@ fn settle(machine: &mut Machine, text: &mut Text) -> Result<()>
     requires { Works machine.old }
     ensures { OnOk result (Works machine.new) }
 {
+    store_all(&mut machine.keeper, &mut machine.waiting)?;
     let step = machine.exporter.settle(&mut machine.keeper)?;
     push_step(text, &step);
     drop(step);
@@ -142,21 +149,23 @@ fn restart(machine: &mut Machine, words: &mut Words, text: &mut Text) -> Result<
     ensures { OnOk result (Works machine.new) }
 {
     let number = words.number()?;
+    store_all(&mut machine.keeper, &mut machine.waiting)?;
     let step = machine.exporter.restart(&mut machine.keeper, number)?;
     push_step(text, &step);
     drop(step);
     Ok(())
 }
 
-// `is`: what is so of the machine. Else what is asked of its store.
+// `is`: what is so of the machine. Else what is asked of its store, which stores first what waits.
 fn ask(machine: &mut Machine, word: &str, words: &mut Words, text: &mut Text) -> Result<()>
     requires { Works machine.old }
     ensures { OnOk result (Works machine.new) }
 {
     if word == "is" {
-        push_state(text, &machine.exporter);
+        push_state(text, machine);
         return Ok(());
     }
+    store_all(&mut machine.keeper, &mut machine.waiting)?;
     look(
         &machine.exporter.tables,
         &mut machine.keeper,
@@ -166,13 +175,16 @@ fn ask(machine: &mut Machine, word: &str, words: &mut Words, text: &mut Text) ->
     )
 }
 
-// Whether it is rested, and alone, and in which epoch.
-fn push_state(text: &mut Text, exporter: &Exporter) {
-    text.number("epoch ", exporter.tables.hosts.epoch);
-    if exporter.is_rested() {
+// Whether it is rested, and alone, whether something waits to be stored, and in which epoch.
+fn push_state(text: &mut Text, machine: &Machine) {
+    text.number("epoch ", machine.exporter.tables.hosts.epoch);
+    if machine.exporter.is_rested() {
         text.word(" rested");
     }
-    if exporter.is_alone() {
+    if machine.exporter.is_alone() {
         text.word(" alone");
+    }
+    if !machine.waiting.is_empty() {
+        text.word(" waiting");
     }
 }

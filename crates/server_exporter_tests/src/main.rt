@@ -1,6 +1,6 @@
 //! What a server's machine makes of messages, and what its store keeps then, by example. Standard input is a table:
-//! each row is a message or a question, and behind ` = ` stands what is wanted from the rows so far. Every row that gets
-//! something else is printed, and at the end the number of rows.
+//! each row is a message or a question, and behind ` = ` stands what is wanted from the rows so far. Every row that
+//! gets something else is printed, and at the end the number of rows.
 #![tactic(auto)]
 
 ghost use Rattle.std.specs.Prelude.{OnOk};

@@ -2,6 +2,8 @@ pub mod Places
 pub mod Objects
 pub mod Sources
 pub mod Asking
+pub mod Gaves
+pub mod Gifts
 pub mod Granting
 pub mod Acting
 pub mod Numbers

@@ -58,7 +58,7 @@ use Rattle.server_keeps.specs.Repeating.{ActsAreSteady, IsSteady}
 -- # What a change of a holding leaves of what is found
 
 -- by some view of what is found by a test, both kept by the change
-view_kept : {A : Type 0} (view : Holding → A) (test : Holding → Bool) (f : Holding → Holding)
+pub view_kept : {A : Type 0} (view : Holding → A) (test : Holding → Bool) (f : Holding → Holding)
     → ((h : Holding) → test (f h) ≡ test h) → ((h : Holding) → view (f h) ≡ view h)
     → (slots : List (Option Holding)) (at : ℕ)
     → option_map view (held_so test (changed_at slots at (option_map f))) ≡ option_map view (held_so test slots)
@@ -113,7 +113,7 @@ noted_kept host g h = by (is_gone h.stay)
     by true = refl
     by false = refl
 
-records_noted : (state : StoreState) (id : FilesetId) (host : HostId) (g : Record → Record)
+pub records_noted : (state : StoreState) (id : FilesetId) (host : HostId) (g : Record → Record)
     → records_of (with_record state id host g) id
     ≡ option_map (λ (rs : List Record). changed_at rs host.0 g) (records_of state id)
 records_noted state id host g = by (is_server id)
@@ -457,12 +457,12 @@ module _ (state : StoreState) (host : HostId) (number : ℕ) (id : FilesetId) (r
 
 -- # Give-backs
 
-abbrev given_by : HostId → ℕ → Option (List Record) → Option Done
+abbrev pub given_by : HostId → ℕ → Option (List Record) → Option Done
 given_by host number o =
     option_map_or (λ (rs : List Record). if nat_lt (record_of rs host).give number then None
     else Some (not_fresh Accepted)) o (Some (not_fresh (Refused NoFileset)))
 
-given_place : (state : StoreState) (at : ℕ) (fid : Fid) (pieces : List Piece) (given : Option ℕ) (id : FilesetId)
+pub given_place : (state : StoreState) (at : ℕ) (fid : Fid) (pieces : List Piece) (given : Option ℕ) (id : FilesetId)
     → records_of (with_held state at (held_given fid pieces given)) id ≡ records_of state id
 unfolding updated
 given_place state at fid pieces given id = records_kept id (held_given fid pieces given) ids kept state at
@@ -486,16 +486,16 @@ given_place state at fid pieces given id = records_kept id (held_given fid piece
 
 module _ (state : StoreState) (host : HostId) (number : ℕ) (fid : Fid) (pieces : List Piece) (given : Option ℕ)
     (limits : KeepsLimits state) (low : host.0 ≤ HOSTS_MAX) where
-  abbrev give : Act
+  abbrev pub give : Act
   give = Give host number fid pieces given
 
-  abbrev between : StoreState
+  abbrev pub between : StoreState
   between = with_held state (slot_so (is_of fid.fileset) state.slots) (held_given fid pieces given)
 
-  abbrev given_state : StoreState
+  abbrev pub given_state : StoreState
   given_state = with_record between fid.fileset host (give_applied number)
 
-  give_is : (from : StoreState) (o : Option Done) → applied_before from fid.fileset host number ≡ o
+  pub give_is : (from : StoreState) (o : Option Done) → applied_before from fid.fileset host number ≡ o
       → act_done from give ≡ unless_before o from (fresh Accepted
       (with_record (with_held from (slot_so (is_of fid.fileset) from.slots) (held_given fid pieces given))
       fid.fileset host (give_applied number)))
@@ -505,7 +505,7 @@ module _ (state : StoreState) (host : HostId) (number : ℕ) (fid : Fid) (pieces
       (with_record (with_held from (slot_so (is_of fid.fileset) from.slots) (held_given fid pieces given))
       fid.fileset host (give_applied number)))) e
 
-  given_first : applied_before state fid.fileset host number ≡ None
+  pub given_first : applied_before state fid.fileset host number ≡ None
       → (records : List Record) × (records_of state fid.fileset ≡ Some records)
   given_first e = by (records_of state fid.fileset) refl e
     where
@@ -514,7 +514,7 @@ module _ (state : StoreState) (host : HostId) (number : ℕ) (fid : Fid) (pieces
       by None f k = absurd (cc)
       by (Some records) f k = (records, f)
 
-  given_again : (records : List Record) → records_of state fid.fileset ≡ Some records
+  pub given_again : (records : List Record) → records_of state fid.fileset ≡ Some records
       → applied_before given_state fid.fileset host number ≡ Some (not_fresh Accepted)
   given_again records there =
       ap (given_by host number)

@@ -13,7 +13,7 @@ use Rattle.store_state.specs.Rows.{found_named}
 use Rattle.store_state.specs.declared.state.HostState.{HostState}
 use Rattle.store_state.specs.declared.state.StoreState.{StoreState}
 use Rattle.server_keeps.specs.Asking.{is_own, named_told}
-use Rattle.server_looks.specs.Acts.{IsRepeatable, epoch_begun, first_reply, host_noted}
+use Rattle.server_looks.specs.Acts.{AreRepeatable, IsRepeatable, epoch_begun, first_reply, host_noted}
 
 set_again : {A : Type 0} (xs : List A) (i : ℕ) (x : A) → slice_set (slice_set xs i x) i x ≡ slice_set xs i x
 set_again [] i x = refl
@@ -68,6 +68,15 @@ pub same_then : (start after now : StoreState) (P : StoreState) → now ≡ afte
     (now ≡ start) ⊎ (now ≡ P)
 same_then start after now P e (inl f) = inl (e ∙ f)
 same_then start after now P e (inr f) = inr (e ∙ f)
+
+-- all of a batch, of which the first were done
+pub all_fit_again : (start now : StoreState) (acts : List Act) (k : ℕ) → AreRepeatable start acts
+    → now ≡ state_after start (take k acts) → AllFit now acts
+all_fit_again start now acts k r e = subst (λ (s : StoreState). AllFit s acts) (sym e) (r.fits_again k)
+
+pub all_once_more : (start now : StoreState) (acts : List Act) (k : ℕ) → AreRepeatable start acts
+    → now ≡ state_after start (take k acts) → state_after now acts ≡ state_after start acts
+all_once_more start now acts k r e = ap (λ (s : StoreState). state_after s acts) e ∙ r.again k
 
 pub on_ok_then : {T E : Type 0} (r : Result T E) (P Q : Type 0) → (P → Q) → OnOk r P → OnOk r Q
 on_ok_then (Ok value) P Q f p = f p

@@ -1,8 +1,10 @@
 pub mod Again
 pub mod Came
+pub mod GivenAgain
 pub mod Looked
 pub use Rattle.server_keeps.proofs.Acting
 pub use Rattle.server_keeps.proofs.Asking
+pub use Rattle.server_keeps.proofs.Gifts
 pub use Rattle.server_keeps.proofs.Granting
 pub use Rattle.server_keeps.proofs.Numbers
 pub use Rattle.server_keeps.proofs.Repeating

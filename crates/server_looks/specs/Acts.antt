@@ -1,14 +1,15 @@
 -- Acts that a server's machine gives to its store.
-use Rattle.std.specs.Prelude.{◌≡◌, ℕ, ◌+◌, List, [], ◌∷◌, slice_set, unwrap_or}
+use Rattle.std.specs.Prelude.{◌≡◌, ◌≤◌, ℕ, ◌+◌, List, [], ◌∷◌, IfSome, length, slice_set, take, unwrap_or}
 use Rattle.base_types.specs.declared.ids.FilesetId.{FilesetId}
 use Rattle.base_types.specs.declared.ids.HostId.{HostId}
+use Rattle.base_types.specs.declared.limits.TheConstants.{FILE_BYTES_MAX, HOSTS_MAX}
 use Rattle.tree_calls.specs.declared.call.Call.{Call}
 use Rattle.tree_calls.specs.declared.reply.Refusal.{Refusal}
 use Rattle.tree_calls.specs.declared.reply.Reply.{Reply}
 use Rattle.tree_calls.specs.declared.reply.Reply.TheVariants.{Ok as Accepted}
 use Rattle.message_types.specs.declared.giving.Give.{Give}
-use Rattle.store_acts.specs.Acts.{act_done}
-use Rattle.store_acts.specs.Sound.{Fits}
+use Rattle.store_acts.specs.Acts.{act_done, state_after}
+use Rattle.store_acts.specs.Sound.{AllFit, Fits, KeepsLimits}
 use Rattle.store_acts.specs.declared.act.Act.{Act}
 use Rattle.store_acts.specs.declared.act.Act.TheVariants.{Do, Give as Gives, Refuse}
 use Rattle.store_memory.specs.Reading.{last_of}
@@ -28,6 +29,22 @@ pub record IsRepeatable (state : StoreState) (act : Act) : Type 0 where
   pub fits_again : Fits (act_done state act).state act
   pub state_same : (act_done (act_done state act).state act).state ≡ (act_done state act).state
   pub reply_same : (act_done (act_done state act).state act).done.reply ≡ (act_done state act).done.reply
+
+-- an act that stores what a host gives back, within the limit of a file's length
+abbrev pub IsGive : Act → Type 0
+IsGive (Gives host number fid pieces given) = IfSome given (λ n. n ≤ FILE_BYTES_MAX)
+IsGive _ = ⊥
+
+-- Acts that may all be given once more wherever the first of them were done: they then leave what they left.
+pub record AreRepeatable (state : StoreState) (acts : List Act) : Type 0 where
+  pub fits : AllFit state acts
+  pub fits_again : (k : ℕ) → AllFit (state_after state (take k acts)) acts
+  pub again : (k : ℕ) → state_after (state_after state (take k acts)) acts ≡ state_after state acts
+
+-- A store that keeps no more than its records have room for.
+pub record IsLimited (state : StoreState) : Type 0 where
+  pub limits : KeepsLimits state
+  pub hosts : length state.roster.hosts ≤ HOSTS_MAX
 
 -- what is known of a host is noted
 abbrev pub host_noted : StoreState → HostId → HostState → StoreState

@@ -7,8 +7,8 @@ ghost use Rattle.store_acts.specs.Sound.{AllFit, AreActs, Fits, HasName, IsAct, 
 ghost use Rattle.store_state.specs.declared.state.StoreState.{StoreState};
 ghost use Rattle.store_acts.specs.declared.act.Act.TheVariants.{Do};
 ghost use Rattle.tree_calls.specs.declared.reply.Reply.TheVariants.{Refused};
-ghost use Rattle.server_looks.specs.Acts.{IsRepeatable, doing, epoch_begun, first_reply, giving, host_noted};
-ghost use Rattle.server_looks.specs.Acts.{next_number, numbered_at, refusing};
+ghost use Rattle.server_looks.specs.Acts.{AreRepeatable, IsGive, IsRepeatable, doing, epoch_begun, first_reply};
+ghost use Rattle.server_looks.specs.Acts.{giving, host_noted, next_number, numbered_at, refusing};
 ghost use Rattle.server_looks.specs.Keepers.{GoesOn, HasAsked, HasGiven, HasTried, IsFit, IsOfRun};
 
 use crate::fault::ExporterFault;
@@ -78,24 +78,32 @@ pub fn refuse_call<S: Store>(
     Ok(Reply::Refused(refusal))
 }
 
-/// Stores what a host gives back.
+/// Stores what hosts have given back, in this order; nothing is written where there is none. Where the disk fails the
+/// store is opened anew, and all given once more.
 #[tactic(auto, using(crate::proofs::Came::went_then, crate::proofs::Came::went_idle))]
-pub fn give<S: Store>(
-    keeper: &mut Keeper<S>,
-    host: HostId,
-    give: &Give,
-) -> Result<(), ExporterFault>
-    requires act { IsAct (S.view keeper.old.store).state.roster (S.view keeper.old.store).state.server
-        (giving host give.now) }
+pub fn give_all<S: Store>(keeper: &mut Keeper<S>, gives: &[Act]) -> Result<(), ExporterFault>
+    requires gives { Each IsGive gives.now }
+    requires acts { AreActs (S.view keeper.old.store).state.roster (S.view keeper.old.store).state.server gives.now }
     requires fit { IsFit (S.view keeper.old.store) keeper.old.left }
-    ensures state { let state = (S.view keeper.old.store).state in S.tells → IsRepeatable state (giving host give.now)
-        → OnOk result ((S.view keeper.new.store).state ≡ (act_done state (giving host give.now)).state) }
+    ensures state { S.tells → AreRepeatable (S.view keeper.old.store).state gives.now
+        → OnOk result ((S.view keeper.new.store).state ≡ state_after (S.view keeper.old.store).state gives.now) }
     ensures tried { HasTried result (S.view keeper.old.store) (S.view keeper.new.store) keeper.new.left }
     ensures went { S.tells → GoesOn (S.view keeper.old.store) (S.view keeper.new.store) }
 {
-    let act = act_of_give(host, give)?;
-    drop(apply_one(keeper, act)?);
-    Ok(())
+    if gives.is_empty() {
+        return Ok(());
+    }
+    match apply_batch(keeper, gives) {
+        Err(ExporterFault::Store) => {
+            keeper.mend()?;
+            drop(apply_batch(keeper, gives)?);
+            Ok(())
+        }
+        answer => {
+            drop(answer?);
+            Ok(())
+        }
+    }
 }
 
 /// Notes what is known of a host.
@@ -170,7 +178,8 @@ fn act_of_call(host: HostId, number: u64, call: &Call) -> Result<Act, NoMemory>
     Ok(Act::Do { host, number, call })
 }
 
-fn act_of_give(host: HostId, give: &Give) -> Result<Act, NoMemory>
+/// What a host gives back, as an act.
+pub fn act_of_give(host: HostId, give: &Give) -> Result<Act, NoMemory>
     ensures { IfOk result (λ act. act ≡ giving host give.now) }
 {
     let pieces = give.pieces.copy()?;

@@ -9,7 +9,7 @@ mod needing;
 mod refusing;
 mod telling;
 
-pub use acting::{begin_epoch, do_call, give, note_host, refuse_call};
+pub use acting::{act_of_give, begin_epoch, do_call, give_all, note_host, refuse_call};
 pub use fault::ExporterFault;
 pub use keeper::Keeper;
 pub use looking::{Found, fileset_entered, found_by};

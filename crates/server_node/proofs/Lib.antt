@@ -1,3 +1,4 @@
+pub mod Kept
 pub mod Staying
 pub mod Standing
 pub mod Turns

@@ -4,7 +4,6 @@ use Rattle.std.proofs.Common.{◌||◌, cond, List, [], ◌∷◌, ◌++◌, Opt
 use Rattle.std.proofs.Common.{◌∙◌, subst, arith, eq-eqb, eqb-true}
 use Rattle.std.specs.List.{list_all}
 use Rattle.std.specs.Option.{option_and_then}
-use Rattle.std.proofs.lemmas.List.{append-nil}
 use Rattle.base_types.specs.declared.ids.HostId.{HostId}
 use Rattle.base_types.specs.declared.ids.Node.{Node}
 use Rattle.base_types.specs.declared.ids.Node.TheVariants.{Server}
@@ -16,7 +15,7 @@ use Rattle.hub_board.specs.declared.given.Given.TheVariants.{Message as CameIn}
 use Rattle.hub_laws.proofs.Ends.{after_more}
 use Rattle.hub_laws.proofs.Names.{name_same}
 use Rattle.hub_laws.specs.Keeping.{LineGoes, Round, WasTold, is_lapse, lapse_in, message_in, message_of, steps_in}
-use Rattle.hub_node.proofs.Keeping.{let_go, next_round, push_lapse, push_message, push_own}
+use Rattle.hub_node.proofs.Keeping.{let_go, push_lapse, push_message, push_own}
 use Rattle.hub_node.proofs.Scripts.{get_below, in_get, line_once}
 use Rattle.hub_node.specs.Keeping.{HasKeptOn, StepKeeps}
 use Rattle.hub_node.specs.Lines.{LinesView, may_go, next_of}
@@ -42,12 +41,14 @@ use Rattle.server_exporter.specs.Machines.{IsAt, IsSame, Keeps}
 use Rattle.server_exporter.specs.Machines.{Says}
 use Rattle.server_exporter.specs.declared.exporter.Exporter.{Exporter}
 use Rattle.server_exporter.specs.Keeper.{Keeper}
-use Rattle.server_node.specs.Standing.{IsFor, Stands, StandsSo, doings_in, kept_in, server_of}
+use Rattle.server_node.proofs.Kept.{push_first, round_more}
+use Rattle.server_node.specs.Standing.{IsFor, Stands, StandsAt, StandsSo, doings_in, kept_in, latest_first, server_of}
 use Rattle.server_node.specs.declared.server.ServerNode.{ServerNode}
 use Rattle.server_tables.specs.Listing.{has_host, is_alone}
 use Rattle.server_tables.specs.Standing.{HostsStand}
 use Rattle.server_tables.specs.declared.hosts.Hosts.{Hosts}
 use Rattle.store_memory.specs.Views.{View}
+use Rattle.store_state.specs.declared.state.StoreState.{StoreState}
 
 -- # Who it is
 
@@ -114,7 +115,8 @@ is_left past x stands away = all_of (λ (h : HostId). has_host x.away h) x.liste
     (λ host i. in_host x.away host (stands.away_all host (away host (stands.listed host i))))
 
 module _ {S : Type 0} (tells : Type 0) (view : S → View) (part : Part) (n : ServerNode S) (past : List Round)
-    (made : List Step) (came : List Message) (lapses : ℕ) (so : StandsSo tells view part n past made came lapses) where
+    (made : List Step) (came : List Message) (lapses : ℕ) (state : StoreState)
+    (so : StandsAt tells view state part n past made came lapses) where
   abbrev own : List Step
   own = appended made (steps_in past)
 
@@ -141,9 +143,9 @@ module _ {S : Type 0} (tells : Type 0) (view : S → View) (part : Part) (n : Se
   pub at : tells → IsAt (doings_in run v own) (kept_in run v own) x
   at told = subst (λ (w : ServerId). IsAt (doings_in run w own) (kept_in run w own) x) (sym so.server) (so.at told)
 
-  pub keeps : tells → Keeps x.tables (kept_in run v own) (view n.keeper.store).state
+  pub keeps : tells → Keeps x.tables (kept_in run v own) state
   keeps told =
-      subst (λ (w : ServerId). Keeps x.tables (kept_in run w own) (view n.keeper.store).state) (sym so.server)
+      subst (λ (w : ServerId). Keeps x.tables (kept_in run w own) state) (sym so.server)
       (so.keeps told)
 
   step_keeps : (s : Step) → Says x.tables s → LineGoes (lines_of script part.node) own s
@@ -171,7 +173,8 @@ module _ {S : Type 0} (tells : Type 0) (view : S → View) (part : Part) (n : Se
       let self : is_node s.node (Server v) ≡ true = ap (λ (k : Node). is_node k (Server v)) is ∙ node_self v in
       sym (ap (λ b. cond b (after_step s (doings_in run v own)) (doings_in run v own)) self)
 
-  module _ (y : Exporter) (keeper : Keeper S) (s : Step) (says : Says x.tables s) (same : IsSame x y)
+  module _ (y : Exporter) (keeper : Keeper S) (next : StoreState) (s : Step) (says : Says x.tables s)
+      (same : IsSame x y)
       (lines : LinesView) where
     abbrev after : ServerNode S
     after = record n { exporter = y; keeper = keeper; lines = lines }
@@ -182,10 +185,10 @@ module _ {S : Type 0} (tells : Type 0) (view : S → View) (part : Part) (n : Se
     -- where the machine has gone on, the node has
     pub stands_then : (rest : List Message) (less : ℕ) → HasKeptOn tells part past (made ++ s ∷ []) rest less
         → (tells → IsAt (after_step s (doings_in run v own)) (kept_in run v (s ∷ own)) y)
-        → (tells → Keeps y.tables (kept_in run v (s ∷ own)) (view keeper.store).state)
+        → (tells → Keeps y.tables (kept_in run v (s ∷ own)) next)
         → lines.lines ≡ n.lines.lines → lines.gone ≡ goes_with s.cause + n.lines.gone
         → lines.gone ≤ length lines.lines → ((flag : List ℕ) → lines.told ≡ Some flag → WasTold past flag)
-        → StandsSo tells view part after past (made ++ s ∷ []) rest less
+        → StandsAt tells view next part after past (made ++ s ∷ []) rest less
     stands_then rest less kept at_then keeps_then lines_same gone within told = record {
       node = so.node;
       server = same.server ∙ so.server;
@@ -201,10 +204,10 @@ module _ {S : Type 0} (tells : Type 0) (view : S → View) (part : Part) (n : Se
           subst (λ l. IsAt (doings_in run (server_of part.node) l) (kept_in run (server_of part.node) l) y)
           (sym grown) here);
       keeps = (λ t.
-          let here : Keeps y.tables (kept_in run (server_of part.node) (s ∷ own)) (view keeper.store).state =
-          subst (λ (w : ServerId). Keeps y.tables (kept_in run w (s ∷ own)) (view keeper.store).state) so.server
+          let here : Keeps y.tables (kept_in run (server_of part.node) (s ∷ own)) next =
+          subst (λ (w : ServerId). Keeps y.tables (kept_in run w (s ∷ own)) next) so.server
           (keeps_then t) in
-          subst (λ l. Keeps y.tables (kept_in run (server_of part.node) l) (view keeper.store).state) (sym grown) here);
+          subst (λ l. Keeps y.tables (kept_in run (server_of part.node) l) next) (sym grown) here);
       lines = lines_same ∙ so.lines;
       gone = gone ∙ ap (λ k. goes_with s.cause + k) so.gone ∙ sym (ap lines_gone grown);
       within = within;
@@ -213,11 +216,12 @@ module _ {S : Type 0} (tells : Type 0) (view : S → View) (part : Part) (n : Se
 
   -- ## A step that is no line's
 
-  module _ (y : Exporter) (keeper : Keeper S) (s : Step) (says : Says x.tables s) (same : IsSame x y)
+  module _ (y : Exporter) (keeper : Keeper S) (next : StoreState) (s : Step) (says : Says x.tables s)
+      (same : IsSame x y)
       (no_line : goes_with s.cause ≡ 0)
       (meet : tells → ServerMeets script run.start v own (doings_in run v own) s)
       (at_then : tells → IsAt (after_step s (doings_in run v own)) (kept_in run v (s ∷ own)) y)
-      (keeps_then : tells → Keeps y.tables (kept_in run v (s ∷ own)) (view keeper.store).state) where
+      (keeps_then : tells → Keeps y.tables (kept_in run v (s ∷ own)) next) where
     none : (k : ℕ) → s.cause ≡ LineOf k → ⊥
     none k e = let one : goes_with s.cause ≡ 1 = ap goes_with e in omega arith
 
@@ -236,27 +240,35 @@ module _ {S : Type 0} (tells : Type 0) (view : S → View) (part : Part) (n : Se
     after_it = record n { exporter = y; keeper = keeper }
 
     plain : (rest : List Message) (less : ℕ) → HasKeptOn tells part past (made ++ s ∷ []) rest less
-        → StandsSo tells view part after_it past (made ++ s ∷ []) rest less
+        → StandsAt tells view next part after_it past (made ++ s ∷ []) rest less
     plain rest less kept =
-        stands_then y keeper s says same n.lines rest less kept at_then keeps_then refl
+        stands_then y keeper next s says same n.lines rest less kept at_then keeps_then refl
         (omega arith) so.within so.told
 
     pub after_own : message_of s.cause ≡ [] → is_lapse s.cause ≡ false
-        → StandsSo tells view part after_it past (made ++ s ∷ []) came lapses
+        → StandsAt tells view next part after_it past (made ++ s ∷ []) came lapses
     after_own no_message no_lapse =
         plain came lapses
         (push_own tells part past made s keeps_to (λ t. meets s (meet (told_of t))) came lapses
         no_message no_lapse so.kept)
 
     pub after_message : (message : Message) → came ≡ message ∷ [] → s.cause ≡ Came message
-        → StandsSo tells view part after_it past (made ++ s ∷ []) [] 0
+        → StandsAt tells view next part after_it past (made ++ s ∷ []) [] 0
     after_message message is by =
         plain [] 0
         (push_message tells part past made s keeps_to (λ t. meets s (meet (told_of t))) message lapses by
         (subst (λ l. HasKeptOn tells part past made l lapses) is so.kept))
 
+    -- by the oldest message that may be taken still
+    pub after_first : (message : Message) (rest : List Message) → came ≡ rest ++ message ∷ [] → s.cause ≡ Came message
+        → StandsAt tells view next part after_it past (made ++ s ∷ []) rest lapses
+    after_first message rest is by =
+        plain rest lapses
+        (push_first tells part past made s keeps_to (λ t. meets s (meet (told_of t))) message rest lapses by
+        (subst (λ l. HasKeptOn tells part past made l lapses) is so.kept))
+
     pub after_lapse : came ≡ [] → lapses ≡ 1 → s.cause ≡ Lapse
-        → StandsSo tells view part after_it past (made ++ s ∷ []) [] 0
+        → StandsAt tells view next part after_it past (made ++ s ∷ []) [] 0
     after_lapse none_came one by =
         plain [] 0
         (push_lapse tells part past made s keeps_to (λ t. meets s (meet (told_of t))) by
@@ -311,10 +323,11 @@ module _ {S : Type 0} (tells : Type 0) (view : S → View) (part : Part) (n : Se
         let t = told_flag n.lines.told flag (subst (λ (d : Deed). may_go n.lines.told d ≡ true) deed slot.1) in
         subst (WasTold past) (sym (name_same flag t.0 t.2)) (so.told t.0 t.1)
 
-    module _ (y : Exporter) (keeper : Keeper S) (s : Step) (says : Says x.tables s) (same : IsSame x y)
+    module _ (y : Exporter) (keeper : Keeper S) (later : StoreState) (s : Step) (says : Says x.tables s)
+        (same : IsSame x y)
         (meet : tells → ServerMeets script run.start v own (doings_in run v own) s)
         (at_then : tells → IsAt (after_step s (doings_in run v own)) (kept_in run v (s ∷ own)) y)
-        (keeps_then : tells → Keeps y.tables (kept_in run v (s ∷ own)) (view keeper.store).state)
+        (keeps_then : tells → Keeps y.tables (kept_in run v (s ∷ own)) later)
         (goes : LineGoes (lines_of script part.node) own s)
         (number : (k : ℕ) → s.cause ≡ LineOf k → line.number ≡ k)
         (one : goes_with s.cause ≡ 1) (no_message : message_of s.cause ≡ []) (no_lapse : is_lapse s.cause ≡ false) where
@@ -326,17 +339,34 @@ module _ {S : Type 0} (tells : Type 0) (view : S → View) (part : Part) (n : Se
           (is.1 ∙ sym (number k e)) in
           awaited flag (ap (λ (z : Line). z.deed) (sym equal) ∙ awaits))
 
-      pub after_line : StandsSo tells view part
+      pub after_line : StandsAt tells view later part
           (record n { exporter = y; keeper = keeper; lines = record n.lines { gone = n.lines.gone + 1 } })
           past (made ++ s ∷ []) came lapses
       after_line =
-          stands_then y keeper s says same (record n.lines { gone = n.lines.gone + 1 }) came lapses
+          stands_then y keeper later s says same (record n.lines { gone = n.lines.gone + 1 }) came lapses
           (push_own tells part past made s line_keeps (λ t. meets s (meet (told_of t))) came
           lapses no_message no_lapse so.kept)
           at_then keeps_then refl (omega arith) (let more = more_lines in omega arith) so.told
 
+  -- what its inbox has is no part of it
+  pub inbox_aside : (inbox : List Message) → StandsAt tells view state part (record n { inbox = inbox }) past made
+      came lapses
+  inbox_aside inbox = record {
+    node = so.node;
+    server = so.server;
+    roster = so.roster;
+    script = so.script;
+    kept = so.kept;
+    at = so.at;
+    keeps = so.keeps;
+    lines = so.lines;
+    gone = so.gone;
+    within = so.within;
+    told = so.told;
+  }
+
   -- what was given last is let go
-  pub stands_on : StandsSo tells view part n past made [] 0
+  pub stands_on : StandsAt tells view state part n past made [] 0
   stands_on = record {
     node = so.node;
     server = so.server;
@@ -380,15 +410,15 @@ module _ {S : Type 0} (tells : Type 0) (view : S → View) (part : Part) (n : Se
 
 pub begins : {S : Type 0} (tells : Type 0) (view : S → View) (part : Part) (n : ServerNode S) (past : List Round)
     (made : List Step) (given : Option Given) → Stands tells view part n past made
-    → StandsSo tells view part n (record { steps = made; given = given } ∷ past) [] (message_in given) (lapse_in given)
+    → StandsSo tells view part n (record { steps = made; given = given } ∷ past) []
+    (message_in given ++ latest_first n.inbox) (lapse_in given)
 begins tells view part n past made given st =
     let so = st.so in record {
       node = so.node;
       server = so.server;
       roster = so.roster;
       script = so.script;
-      kept = next_round tells part past made [] given
-          (subst (λ l. HasKeptOn tells part past l [] 0) (sym (append-nil made)) so.kept);
+      kept = round_more tells part past made given (latest_first n.inbox) so.kept;
       at = so.at;
       keeps = so.keeps;
       lines = so.lines;

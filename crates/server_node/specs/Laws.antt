@@ -2,16 +2,17 @@
 use Rattle.std.proofs.Common.{ℕ, ◌≤◌, refl, ◌∙◌, arith}
 use Rattle.base_types.specs.Faults.{RoseBy}
 use Rattle.store_memory.specs.Views.{View}
-use Rattle.hub_node.proofs.Keeping.{may_hand_in}
+use Rattle.hub_node.proofs.Keeping.{let_go, may_hand_in}
 use Rattle.hub_node.specs.Nodes.{HandsIn}
 use Rattle.hub_node.specs.declared.node.NodeFault.{NodeFault}
 use Rattle.hub_node.specs.declared.node.NodeFault.TheVariants.{Memory}
-use Rattle.server_node.specs.Standing.{HasFailed, HasFailedBy, HasServed, Stands}
+use Rattle.server_node.specs.Standing.{HasFailed, HasFailedBy, HasServed, Stands, latest_first}
 use Rattle.server_node.specs.declared.server.ServerNode.{ServerNode}
 
 -- it may hand in what it has made
 pub hands_in : {S : Type 0} (tells : Type 0) (view : S → View) (n : ServerNode S) → HandsIn tells (Stands tells view) n
-hands_in tells view n part past made st = may_hand_in tells part past made st.so.kept
+hands_in tells view n part past made st =
+    may_hand_in tells part past made (let_go tells part past made (latest_first n.inbox) 0 st.so.kept)
 
 -- what stays of it, and that its store failed, go on
 rose_since : (a b c : ℕ) → a ≤ b → RoseBy 2 b c → RoseBy 2 a c

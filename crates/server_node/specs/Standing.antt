@@ -1,16 +1,18 @@
 -- Where a server stands in a run, as a node. What its store is known to keep is said where the store tells it.
-use Rattle.std.specs.Prelude.{List, Some, [], is_some, length, true, ℕ, ◌≡◌, ◌≤◌}
+use Rattle.std.specs.Prelude.{List, Option, Some, [], is_some, length, true, ℕ, ◌++◌, ◌∷◌, ◌≡◌, ◌≤◌}
 use Rattle.base_types.specs.declared.ids.HostId.{HostId}
 use Rattle.base_types.specs.declared.ids.Node.{Node}
 use Rattle.base_types.specs.declared.ids.Node.TheVariants.{Host, Server}
 use Rattle.base_types.specs.declared.ids.ServerId.{ServerId}
 use Rattle.tree_answers.specs.declared.tree.Tree.{Tree}
 use Rattle.tree_calls.specs.Rosters.{user_of}
-use Rattle.message_types.specs.Soundness.{IsHost, IsSound as IsSoundFor}
+use Rattle.message_types.specs.Soundness.{Each, IsHost, IsSound as IsSoundFor}
+use Rattle.message_types.specs.declared.message.Direction.TheVariants.{ToServer}
 use Rattle.message_types.specs.declared.message.Message.{Message}
 use Rattle.script_lines.specs.Sound.{IsSound, same_node}
 use Rattle.script_lines.specs.declared.script.Line.{Line}
 use Rattle.store_memory.specs.Views.{IsSameStore, View}
+use Rattle.store_state.specs.declared.state.StoreState.{StoreState}
 use Rattle.run_rules.specs.Doings.{Doing, doings_of}
 use Rattle.run_rules.specs.Kept.{filesets_first, filesets_kept}
 use Rattle.run_rules.specs.Past.{In, appended}
@@ -25,6 +27,7 @@ use Rattle.hub_node.specs.Lines.{LinesView, next_of}
 use Rattle.hub_node.specs.Nodes.{Beginning, Part, first_at}
 use Rattle.hub_node.specs.declared.node.NodeFault.{NodeFault}
 use Rattle.hub_node.specs.declared.node.NodeFault.TheVariants.{Store as StoreFailed}
+use Rattle.server_exporter.specs.Messages.{IsFor as IsForServer}
 use Rattle.server_exporter.specs.Serving.{IsServed}
 use Rattle.server_exporter.specs.Machines.{IsAt, Keeps}
 pub use Rattle.server_exporter.specs.Keepers.{HasCome}
@@ -56,6 +59,19 @@ pub record CanServe (tells : Type 0) (run : Beginning) (server : ServerId) (view
   pub keeps : tells → (x : Tables) → x.gives ≡ [] → x.hosts.epoch ≡ view.state.epoch
       → Keeps x (filesets_first run.start server) view.state
 
+-- what was given is a message of a host to a server
+abbrev pub IsGiveBackTo : Option Given → Type 0
+IsGiveBackTo given = (m : Message) × (given ≡ Some (Came m)) × (m.direction ≡ ToServer)
+
+-- messages for the server of a machine
+abbrev pub AreTheirs : Tables → List Message → Type 0
+AreTheirs x ms = Each (IsForServer x.server x.roster) ms
+
+-- messages in the order in which they came, the newest first
+abbrev pub latest_first : List Message → List Message
+latest_first [] = []
+latest_first (m ∷ ms) = latest_first ms ++ m ∷ []
+
 module _ {S : Type 0} (tells : Type 0) (view : S → View) where
   -- its store may be asked, and is that of its machine, which says only what is sound
   pub record IsReady (n : ServerNode S) : Type 0 where
@@ -63,11 +79,11 @@ module _ {S : Type 0} (tells : Type 0) (view : S → View) where
     pub sound : AreSound n.exporter.tables
     pub fit : IsFit (view n.keeper.store) n.keeper.left
 
-  -- Its machine stands where the steps that it has made have brought it, and its store keeps what they keep; its lines
-  -- are those of its part, as many have gone, and it was told of what it knows. Of what was given, this may be taken
-  -- still.
-  pub record StandsSo (part : Part) (n : ServerNode S) (past : List Round) (made : List Step) (came : List Message)
-      (lapses : ℕ) : Type 0 where
+  -- Its machine stands where the steps that it has made have brought it, and its store keeps what they keep, once what
+  -- waits is stored: this state; its lines are those of its part, as many have gone, and it was told of what it knows.
+  -- Of what was given, this may be taken still.
+  pub record StandsAt (state : StoreState) (part : Part) (n : ServerNode S) (past : List Round) (made : List Step)
+      (came : List Message) (lapses : ℕ) : Type 0 where
     pub node : part.node ≡ Server (server_of part.node)
     pub server : n.exporter.tables.server ≡ server_of part.node
     pub roster : n.exporter.tables.roster ≡ part.run.script.roster
@@ -76,17 +92,22 @@ module _ {S : Type 0} (tells : Type 0) (view : S → View) where
     pub at : tells → IsAt (doings_in part.run (server_of part.node) (appended made (steps_in past)))
         (kept_in part.run (server_of part.node) (appended made (steps_in past))) n.exporter
     pub keeps : tells → Keeps n.exporter.tables
-        (kept_in part.run (server_of part.node) (appended made (steps_in past))) (view n.keeper.store).state
+        (kept_in part.run (server_of part.node) (appended made (steps_in past))) state
     pub lines : n.lines.lines ≡ lines_of part.run.script part.node
     pub gone : n.lines.gone ≡ lines_gone (appended made (steps_in past))
     pub within : n.lines.gone ≤ length n.lines.lines
     pub told : (flag : List ℕ) → n.lines.told ≡ Some flag → WasTold past flag
 
-  -- and so it is between turns, when no Change is left that could be decided
+  -- and nothing waits to be stored
+  abbrev pub StandsSo : Part → ServerNode S → List Round → List Step → List Message → ℕ → Type 0
+  StandsSo part n past made came lapses = StandsAt (view n.keeper.store).state part n past made came lapses
+
+  -- And so it is between turns, when no Change is left that could be decided, and what was kept is to be taken still.
   pub record Stands (part : Part) (n : ServerNode S) (past : List Round) (made : List Step) : Type 0 where
     pub ready : IsReady n
     pub rested : n.exporter.rested ≡ true
-    pub so : StandsSo part n past made [] 0
+    pub theirs : AreTheirs n.exporter.tables n.inbox
+    pub so : StandsSo part n past made (latest_first n.inbox) 0
 
   -- Whatever it does, its store is for the same server and has done acts of it alone, the disk's count of faults
   -- doesn't fall, and the store may be opened anew and isn't worn out, as it was before.

@@ -1,11 +1,13 @@
-ghost use Rattle.std.specs.Prelude.{◌≡◌, ◌∷◌, ◌++◌, ◌↔◌, ◌≤◌, ◌^◌, [], length, Some, None, false, true};
+ghost use Rattle.std.specs.Prelude.{◌≡◌, ◌∷◌, ◌++◌, ◌<◌, ◌↔◌, ◌≤◌, ◌^◌, ℕ, [], length, remove, Some, None, false, true};
 ghost use Rattle.std.specs.Prelude.{IfErr, IfOk, IfSome, IsOk, IsTrue, OnOk, Err, List};
 ghost use Rattle.base_types.specs.declared.ids.Node.TheVariants.{Server as IsServer};
+ghost use Rattle.hub_board.specs.declared.given.Given.TheVariants.{Message as Came};
 ghost use Rattle.hub_board.specs.declared.given.Turned.TheVariants.{Ended, Idle, Worked};
 ghost use Rattle.hub_laws.specs.Keeping.{Round, lapse_in, message_in};
 ghost use Rattle.hub_node.specs.Nodes.{Beginning, Part, part_of};
 ghost use Rattle.hub_node.specs.declared.node.NodeFault.TheVariants.{Memory, Store as StoreFailed};
 ghost use Rattle.message_types.specs.Soundness.{IsSound};
+ghost use Rattle.message_types.specs.declared.message.Message.{Message as MessageOf};
 ghost use Rattle.message_types.specs.declared.message.Direction.TheVariants.{ToServer};
 ghost use Rattle.run_rules.specs.Plans.{receiver};
 ghost use Rattle.run_rules.specs.Steps.{lines_of};
@@ -13,25 +15,31 @@ ghost use Rattle.script_lines.specs.Sound.{same_node};
 ghost use Rattle.script_lines.specs.declared.script.Deed.TheVariants.{Restart as Restarts};
 ghost use Rattle.server_exporter.specs.Machines.{IsNew, IsNoRestart, IsRestart};
 ghost use Rattle.server_exporter.specs.ExporterFault.TheVariants.{Store as OfStore};
-ghost use Rattle.server_node.specs.Standing.{CanServe, HasFailed, HasServed, IsFor, IsReady, NextIs, Stands, StandsSo};
-ghost use Rattle.server_node.specs.Standing.{WasGiven};
+ghost use Rattle.server_exporter.specs.Acts.{IsLimited};
+ghost use Rattle.server_exporter.specs.Gathering.{AreGives};
+ghost use Rattle.server_node.specs.Standing.{AreTheirs, CanServe, HasFailed, HasServed, IsFor, IsGiveBackTo, IsReady};
+ghost use Rattle.server_node.specs.Standing.{NextIs, Stands, StandsAt, StandsSo, WasGiven, latest_first};
+ghost use Rattle.store_acts.specs.Acts.{state_after};
 ghost use Rattle.server_tables.specs.Listing.{is_alone};
 
-use base_types::{NoMemory, Node as NodeId, ServerId};
+use base_types::{Items, NoMemory, Node as NodeId, ServerId};
 use hub_node::{Node, NodeFault, OwnLines};
 use hub_turns::{Given, Pending, Turned};
-use message_types::{Direction, Message};
+use message_types::{Body, Direction, Message};
 use run_rules::Step;
 use script_lines::{Deed, Script};
-use server_exporter::{Exporter, ExporterFault, Keeper};
+use server_exporter::{Exporter, ExporterFault, GIVES_MAX, Keeper, store_all};
 use std::alloc::Global;
-use store_memory::Store;
+use store_memory::{Act, Store};
 
-/// A server: its machine, its store and its lines.
+/// A server: its machine, its store and its lines. Give-backs for which no want waits are taken together, up to
+/// `GIVES_MAX` of them, so that all are stored at once.
 pub struct ServerNode<'a, S> {
     exporter: Exporter,
     keeper: Keeper<S>,
     lines: OwnLines<'a>,
+    /// The give-backs that came and weren't taken yet, in their order.
+    inbox: Items<Message>,
 }
 
 impl<'a, S: Drop> Drop for ServerNode<'a, S> {
@@ -40,6 +48,7 @@ impl<'a, S: Drop> Drop for ServerNode<'a, S> {
             exporter: _,
             keeper: _,
             lines: _,
+            inbox: _,
         } = self;
     }
 }
@@ -82,11 +91,13 @@ impl<'a, S: Store + Drop> ServerNode<'a, S> {
     {
         let alloc = script.lines.alloc();
         let epoch = store.epoch();
+        let inbox = Items::new(alloc);
         match machine_of(alloc, script, server, epoch) {
             Ok((exporter, lines)) => Ok(ServerNode {
                 exporter,
                 keeper: Keeper::new(store),
                 lines,
+                inbox,
             }),
             Err(NoMemory) => Err(store),
         }
@@ -100,9 +111,11 @@ impl<'a, S: Store + Drop> ServerNode<'a, S> {
             exporter,
             keeper,
             lines,
+            inbox,
         } = self;
         drop(exporter);
         drop(lines);
+        drop(inbox);
         keeper.into_store()
     }
 
@@ -111,9 +124,10 @@ impl<'a, S: Store + Drop> ServerNode<'a, S> {
         requires ready { IsReady S.tells S.view self.old }
         ensures ready { OnOk result (IsReady S.tells S.view self.new) }
         ensures rested { OnOk result (self.new.exporter.rested ≡ true) }
-        ensures works { (part : Part) (past : List Round)
-            → StandsSo S.tells S.view part self.old past steps.old.steps [] 0
-            → OnOk result (StandsSo S.tells S.view part self.new past steps.new.steps [] 0) }
+        ensures works { (part : Part) (past : List Round) (came : List MessageOf) (lapses : ℕ)
+            → StandsSo S.tells S.view part self.old past steps.old.steps came lapses
+            → OnOk result (StandsSo S.tells S.view part self.new past steps.new.steps came lapses) }
+        ensures inbox { self.new.inbox ≡ self.old.inbox }
         ensures stays { HasServed S.tells S.view self.old self.new }
         ensures failed { result ≡ Err StoreFailed → HasFailed S.tells S.view self.old self.new }
     {
@@ -133,9 +147,10 @@ impl<'a, S: Store + Drop> ServerNode<'a, S> {
     fn settle_once(&mut self, steps: &mut Pending) -> Result<(), NodeFault>
         requires ready { IsReady S.tells S.view self.old }
         ensures ready { OnOk result (IsReady S.tells S.view self.new) }
-        ensures works { (part : Part) (past : List Round)
-            → StandsSo S.tells S.view part self.old past steps.old.steps [] 0
-            → OnOk result (StandsSo S.tells S.view part self.new past steps.new.steps [] 0) }
+        ensures works { (part : Part) (past : List Round) (came : List MessageOf) (lapses : ℕ)
+            → StandsSo S.tells S.view part self.old past steps.old.steps came lapses
+            → OnOk result (StandsSo S.tells S.view part self.new past steps.new.steps came lapses) }
+        ensures inbox { self.new.inbox ≡ self.old.inbox }
         ensures stays { HasServed S.tells S.view self.old self.new }
         ensures failed { result ≡ Err StoreFailed → HasFailed S.tells S.view self.old self.new }
     {
@@ -152,6 +167,7 @@ impl<'a, S: Store + Drop> ServerNode<'a, S> {
         ensures works { (part : Part) (past : List Round) → StandsSo S.tells S.view part self.old past steps.old.steps
             (message_in (Some given)) (lapse_in (Some given)) → WasGiven past given
             → OnOk result (StandsSo S.tells S.view part self.new past steps.new.steps [] 0) }
+        ensures inbox { self.new.inbox ≡ self.old.inbox }
         ensures stays { HasServed S.tells S.view self.old self.new }
         ensures failed { result ≡ Err StoreFailed → HasFailed S.tells S.view self.old self.new }
     {
@@ -176,6 +192,7 @@ impl<'a, S: Store + Drop> ServerNode<'a, S> {
         ensures works { (part : Part) (past : List Round)
             → StandsSo S.tells S.view part self.old past steps.old.steps (message ∷ []) 0
             → OnOk result (StandsSo S.tells S.view part self.new past steps.new.steps [] 0) }
+        ensures inbox { self.new.inbox ≡ self.old.inbox }
         ensures stays { HasServed S.tells S.view self.old self.new }
         ensures failed { result ≡ Err StoreFailed → HasFailed S.tells S.view self.old self.new }
     {
@@ -195,6 +212,7 @@ impl<'a, S: Store + Drop> ServerNode<'a, S> {
         ensures works { (part : Part) (past : List Round)
             → StandsSo S.tells S.view part self.old past steps.old.steps [] 1
             → OnOk result (StandsSo S.tells S.view part self.new past steps.new.steps [] 0) }
+        ensures inbox { self.new.inbox ≡ self.old.inbox }
         ensures stays { HasServed S.tells S.view self.old self.new }
         ensures failed { result ≡ Err StoreFailed → HasFailed S.tells S.view self.old self.new }
     {
@@ -210,6 +228,7 @@ impl<'a, S: Store + Drop> ServerNode<'a, S> {
         ensures works { (part : Part) (past : List Round)
             → StandsSo S.tells S.view part self.old past steps.old.steps [] 0
             → OnOk result (StandsSo S.tells S.view part self.new past steps.new.steps [] 0) }
+        ensures inbox { self.new.inbox ≡ self.old.inbox }
         ensures stays { HasServed S.tells S.view self.old self.new }
         ensures failed { result ≡ Err StoreFailed → HasFailed S.tells S.view self.old self.new }
     {
@@ -232,6 +251,7 @@ impl<'a, S: Store + Drop> ServerNode<'a, S> {
         ensures works { (part : Part) (past : List Round)
             → StandsSo S.tells S.view part self.old past steps.old.steps [] 0
             → OnOk result (StandsSo S.tells S.view part self.new past steps.new.steps [] 0) }
+        ensures inbox { self.new.inbox ≡ self.old.inbox }
         ensures stays { HasServed S.tells S.view self.old self.new }
         ensures failed { result ≡ Err StoreFailed → HasFailed S.tells S.view self.old self.new }
     {
@@ -249,6 +269,7 @@ impl<'a, S: Store + Drop> ServerNode<'a, S> {
         ensures works { (part : Part) (past : List Round)
             → StandsSo S.tells S.view part self.old past steps.old.steps [] 0
             → OnOk result (StandsSo S.tells S.view part self.new past steps.new.steps [] 0) }
+        ensures inbox { self.new.inbox ≡ self.old.inbox }
         ensures stays { HasServed S.tells S.view self.old self.new }
         ensures failed { result ≡ Err StoreFailed → HasFailed S.tells S.view self.old self.new }
     {
@@ -267,6 +288,7 @@ impl<'a, S: Store + Drop> ServerNode<'a, S> {
         ensures works { (part : Part) (past : List Round) → StandsSo S.tells S.view part self.old past steps.old.steps
             (message_in given) (lapse_in given) → IfSome given (WasGiven past)
             → OnOk result (StandsSo S.tells S.view part self.new past steps.new.steps [] 0) }
+        ensures inbox { self.new.inbox ≡ self.old.inbox }
         ensures stays { HasServed S.tells S.view self.old self.new }
         ensures failed { result ≡ Err StoreFailed → HasFailed S.tells S.view self.old self.new }
     {
@@ -280,7 +302,7 @@ impl<'a, S: Store + Drop> ServerNode<'a, S> {
     }
 
     // Takes what was given, if anything was, and lets the next line go; and decides what is left each time.
-    fn take_turn(&mut self, given: Option<Given>, steps: &mut Pending) -> Result<(), NodeFault>
+    fn take_rest(&mut self, given: Option<Given>, steps: &mut Pending) -> Result<(), NodeFault>
         requires ready { IsReady S.tells S.view self.old }
         requires rested { self.old.exporter.rested ≡ true }
         requires given { IfSome given (IsFor self.old.exporter.tables) }
@@ -289,6 +311,7 @@ impl<'a, S: Store + Drop> ServerNode<'a, S> {
         ensures works { (part : Part) (past : List Round) → StandsSo S.tells S.view part self.old past steps.old.steps
             (message_in given) (lapse_in given) → IfSome given (WasGiven past)
             → OnOk result (StandsSo S.tells S.view part self.new past steps.new.steps [] 0) }
+        ensures inbox { self.new.inbox ≡ self.old.inbox }
         ensures stays { HasServed S.tells S.view self.old self.new }
         ensures failed { result ≡ Err StoreFailed → HasFailed S.tells S.view self.old self.new }
     {
@@ -307,6 +330,7 @@ impl<'a, S: Store + Drop> ServerNode<'a, S> {
         ensures works { (part : Part) (past : List Round)
             → StandsSo S.tells S.view part self.old past steps.old.steps [] 0
             → OnOk result (StandsSo S.tells S.view part self.new past steps.new.steps [] 0) }
+        ensures inbox { self.new.inbox ≡ self.old.inbox }
         ensures stays { HasServed S.tells S.view self.old self.new }
         ensures failed { result ≡ Err StoreFailed → HasFailed S.tells S.view self.old self.new }
     {
@@ -314,6 +338,231 @@ impl<'a, S: Store + Drop> ServerNode<'a, S> {
             Ok(()) => self.settle(steps),
             Err(fault) => Err(fault),
         }
+    }
+
+    // Takes a turn: a give-back for which no want waits is kept till others have come or nothing comes; before anything
+    // else those that were kept are taken.
+    fn take_turn(&mut self, given: Option<Given>, steps: &mut Pending) -> Result<(), NodeFault>
+        requires ready { IsReady S.tells S.view self.old }
+        requires rested { self.old.exporter.rested ≡ true }
+        requires theirs { AreTheirs self.old.exporter.tables self.old.inbox }
+        requires given { IfSome given (IsFor self.old.exporter.tables) }
+        ensures ready { OnOk result (IsReady S.tells S.view self.new) }
+        ensures rested { OnOk result (self.new.exporter.rested ≡ true) }
+        ensures theirs { OnOk result (AreTheirs self.new.exporter.tables self.new.inbox) }
+        ensures works { (part : Part) (past : List Round) → StandsSo S.tells S.view part self.old past steps.old.steps
+            (message_in given ++ latest_first self.old.inbox) (lapse_in given) → IfSome given (WasGiven past)
+            → OnOk result (StandsSo S.tells S.view part self.new past steps.new.steps (latest_first self.new.inbox) 0) }
+        ensures stays { HasServed S.tells S.view self.old self.new }
+        ensures failed { result ≡ Err StoreFailed → HasFailed S.tells S.view self.old self.new }
+    {
+        if self.may_keep(&given) {
+            return self.keep(given, steps);
+        }
+        match self.take_kept(steps) {
+            Ok(()) => self.take_rest(given, steps),
+            Err(fault) => Err(fault),
+        }
+    }
+
+    // Whether a give-back came that may be kept for a while.
+    fn may_keep(&self, given: &Option<Given>) -> bool
+        ensures { IsTrue result → IsGiveBackTo given.now }
+    {
+        if !self.exporter.is_free() {
+            return false;
+        }
+        match given {
+            Some(Given::Message(message)) => is_give_back(message),
+            _ => false,
+        }
+    }
+
+    // A give-back that came is kept, behind those that were; where there is no room these are taken first.
+    fn keep(&mut self, given: Option<Given>, steps: &mut Pending) -> Result<(), NodeFault>
+        requires ready { IsReady S.tells S.view self.old }
+        requires rested { self.old.exporter.rested ≡ true }
+        requires theirs { AreTheirs self.old.exporter.tables self.old.inbox }
+        requires given { IfSome given (IsFor self.old.exporter.tables) }
+        requires back { IsGiveBackTo given }
+        ensures ready { OnOk result (IsReady S.tells S.view self.new) }
+        ensures rested { OnOk result (self.new.exporter.rested ≡ true) }
+        ensures theirs { OnOk result (AreTheirs self.new.exporter.tables self.new.inbox) }
+        ensures works { (part : Part) (past : List Round) → StandsSo S.tells S.view part self.old past steps.old.steps
+            (message_in given ++ latest_first self.old.inbox) (lapse_in given)
+            → OnOk result (StandsSo S.tells S.view part self.new past steps.new.steps (latest_first self.new.inbox) 0) }
+        ensures stays { HasServed S.tells S.view self.old self.new }
+        ensures failed { result ≡ Err StoreFailed → HasFailed S.tells S.view self.old self.new }
+    {
+        match self.make_room(steps) {
+            Ok(()) => self.put(given),
+            Err(fault) => Err(fault),
+        }
+    }
+
+    // Takes the give-backs that were kept, where there is no room for one more.
+    fn make_room(&mut self, steps: &mut Pending) -> Result<(), NodeFault>
+        requires ready { IsReady S.tells S.view self.old }
+        requires rested { self.old.exporter.rested ≡ true }
+        requires theirs { AreTheirs self.old.exporter.tables self.old.inbox }
+        ensures ready { OnOk result (IsReady S.tells S.view self.new) }
+        ensures rested { OnOk result (self.new.exporter.rested ≡ true) }
+        ensures theirs { OnOk result (AreTheirs self.new.exporter.tables self.new.inbox) }
+        ensures works { (part : Part) (past : List Round) (came : List MessageOf) (lapses : ℕ)
+            → StandsSo S.tells S.view part self.old past steps.old.steps (came ++ latest_first self.old.inbox) lapses
+            → OnOk result (StandsSo S.tells S.view part self.new past steps.new.steps
+            (came ++ latest_first self.new.inbox) lapses) }
+        ensures stays { HasServed S.tells S.view self.old self.new }
+        ensures failed { result ≡ Err StoreFailed → HasFailed S.tells S.view self.old self.new }
+    {
+        let is_full = self.inbox.len() >= GIVES_MAX;
+        if !is_full {
+            return Ok(());
+        }
+        self.take_kept(steps)
+    }
+
+    // A message that came is kept, to be taken later.
+    fn put(&mut self, given: Option<Given>) -> Result<(), NodeFault>
+        requires { IsGiveBackTo given }
+        ensures rest { self.new ≡ record self.old { inbox = self.new.inbox } }
+        ensures kept { (message : MessageOf) → given ≡ Some (Came message)
+            → OnOk result (self.new.inbox ≡ self.old.inbox ++ message ∷ []) }
+        ensures err { IfErr result (λ fault. fault ≡ Memory) }
+    {
+        let Some(Given::Message(message)) = given else {
+            return Ok(());
+        };
+        match self.inbox.push(message) {
+            Ok(()) => Ok(()),
+            Err(NoMemory) => Err(NodeFault::Memory),
+        }
+    }
+
+    // Takes the give-backs that were kept, in their order, and stores what they bring at once.
+    fn take_kept(&mut self, steps: &mut Pending) -> Result<(), NodeFault>
+        requires ready { IsReady S.tells S.view self.old }
+        requires rested { self.old.exporter.rested ≡ true }
+        requires theirs { AreTheirs self.old.exporter.tables self.old.inbox }
+        ensures ready { OnOk result (IsReady S.tells S.view self.new) }
+        ensures rested { OnOk result (self.new.exporter.rested ≡ true) }
+        ensures inbox { OnOk result (self.new.inbox ≡ []) }
+        ensures works { (part : Part) (past : List Round) (came : List MessageOf) (lapses : ℕ)
+            → StandsSo S.tells S.view part self.old past steps.old.steps (came ++ latest_first self.old.inbox) lapses
+            → OnOk result (StandsSo S.tells S.view part self.new past steps.new.steps came lapses) }
+        ensures stays { HasServed S.tells S.view self.old self.new }
+        ensures failed { result ≡ Err StoreFailed → HasFailed S.tells S.view self.old self.new }
+    {
+        let mut waiting = Items::new(self.inbox.alloc());
+        while !self.inbox.is_empty() {
+            match self.gather_next(&mut waiting, steps) {
+                Ok(()) => {}
+                Err(fault) => return Err(fault),
+            }
+        }
+        self.store(&mut waiting)
+    }
+
+    // Takes the first that was kept. What it brings may wait to be stored, where no Change is left to be decided.
+    fn gather_next(
+        &mut self,
+        waiting: &mut Items<Act>,
+        steps: &mut Pending,
+    ) -> Result<(), NodeFault>
+        requires some { 0 < length self.old.inbox }
+        requires ready { IsReady S.tells S.view self.old }
+        requires rested { self.old.exporter.rested ≡ true }
+        requires theirs { AreTheirs self.old.exporter.tables self.old.inbox }
+        requires gives { AreGives (S.view self.old.keeper.store).state waiting.old }
+        ensures ready { OnOk result (IsReady S.tells S.view self.new) }
+        ensures rested { OnOk result (self.new.exporter.rested ≡ true) }
+        ensures inbox { OnOk result (self.new.inbox ≡ remove self.old.inbox 0) }
+        ensures gives { OnOk result (AreGives (S.view self.new.keeper.store).state waiting.new) }
+        ensures works { (part : Part) (past : List Round) (came : List MessageOf) (lapses : ℕ)
+            → (S.tells → IsLimited (S.view self.old.keeper.store).state)
+            → StandsAt S.tells S.view (state_after (S.view self.old.keeper.store).state waiting.old) part self.old past
+            steps.old.steps (came ++ latest_first self.old.inbox) lapses
+            → OnOk result ((S.tells → IsLimited (S.view self.new.keeper.store).state)
+            × StandsAt S.tells S.view (state_after (S.view self.new.keeper.store).state waiting.new) part self.new past
+            steps.new.steps (came ++ latest_first self.new.inbox) lapses) }
+        ensures stays { HasServed S.tells S.view self.old self.new }
+        ensures failed { result ≡ Err StoreFailed → HasFailed S.tells S.view self.old self.new }
+    {
+        match self.gather(waiting, steps) {
+            Ok(()) => self.settle_gathered(waiting, steps),
+            Err(fault) => Err(fault),
+        }
+    }
+
+    // Stores what waits, where a Change is left to be decided, and decides what is left.
+    fn settle_gathered(
+        &mut self,
+        waiting: &mut Items<Act>,
+        steps: &mut Pending,
+    ) -> Result<(), NodeFault>
+        requires ready { IsReady S.tells S.view self.old }
+        requires gives { AreGives (S.view self.old.keeper.store).state waiting.old }
+        ensures ready { OnOk result (IsReady S.tells S.view self.new) }
+        ensures rested { OnOk result (self.new.exporter.rested ≡ true) }
+        ensures inbox { self.new.inbox ≡ self.old.inbox }
+        ensures gives { OnOk result (AreGives (S.view self.new.keeper.store).state waiting.new) }
+        ensures works { (part : Part) (past : List Round) (came : List MessageOf) (lapses : ℕ)
+            → (S.tells → IsLimited (S.view self.old.keeper.store).state)
+            → StandsAt S.tells S.view (state_after (S.view self.old.keeper.store).state waiting.old) part self.old past
+            steps.old.steps came lapses
+            → OnOk result ((S.tells → IsLimited (S.view self.new.keeper.store).state)
+            × StandsAt S.tells S.view (state_after (S.view self.new.keeper.store).state waiting.new) part self.new past
+            steps.new.steps came lapses) }
+        ensures stays { HasServed S.tells S.view self.old self.new }
+        ensures failed { result ≡ Err StoreFailed → HasFailed S.tells S.view self.old self.new }
+    {
+        if self.exporter.is_rested() {
+            return Ok(());
+        }
+        match self.store(waiting) {
+            Ok(()) => self.settle(steps),
+            Err(fault) => Err(fault),
+        }
+    }
+
+    // Takes the first that was kept, where what it brings may wait to be stored.
+    fn gather(&mut self, waiting: &mut Items<Act>, steps: &mut Pending) -> Result<(), NodeFault>
+        requires some { 0 < length self.old.inbox }
+        requires ready { IsReady S.tells S.view self.old }
+        requires rested { self.old.exporter.rested ≡ true }
+        requires theirs { AreTheirs self.old.exporter.tables self.old.inbox }
+        requires gives { AreGives (S.view self.old.keeper.store).state waiting.old }
+        ensures ready { OnOk result (IsReady S.tells S.view self.new) }
+        ensures inbox { self.new.inbox ≡ remove self.old.inbox 0 }
+        ensures gives { OnOk result (AreGives (S.view self.new.keeper.store).state waiting.new) }
+        ensures works { (part : Part) (past : List Round) (came : List MessageOf) (lapses : ℕ)
+            → (S.tells → IsLimited (S.view self.old.keeper.store).state)
+            → StandsAt S.tells S.view (state_after (S.view self.old.keeper.store).state waiting.old) part self.old past
+            steps.old.steps (came ++ latest_first self.old.inbox) lapses
+            → OnOk result ((S.tells → IsLimited (S.view self.new.keeper.store).state)
+            × StandsAt S.tells S.view (state_after (S.view self.new.keeper.store).state waiting.new) part self.new past
+            steps.new.steps (came ++ latest_first self.new.inbox) lapses) }
+        ensures stays { HasServed S.tells S.view self.old self.new }
+        ensures failed { result ≡ Err StoreFailed → HasFailed S.tells S.view self.old self.new }
+    {
+        let message = self.inbox.remove(0);
+        let made = self.exporter.gather(&mut self.keeper, waiting, message);
+        push_made(steps, made)
+    }
+
+    // Stores what waits, and then nothing does.
+    fn store(&mut self, waiting: &mut Items<Act>) -> Result<(), NodeFault>
+        requires ready { IsReady S.tells S.view self.old }
+        requires gives { AreGives (S.view self.old.keeper.store).state waiting.old }
+        ensures rest { self.new ≡ record self.old { keeper = self.new.keeper } }
+        ensures ready { OnOk result (IsReady S.tells S.view self.new) }
+        ensures none { OnOk result (waiting.new ≡ []) }
+        ensures state { S.tells → IsLimited (S.view self.old.keeper.store).state → OnOk result
+            ((S.view self.new.keeper.store).state ≡ state_after (S.view self.old.keeper.store).state waiting.old) }
+        ensures stays { HasServed S.tells S.view self.old self.new }
+        ensures failed { result ≡ Err StoreFailed → HasFailed S.tells S.view self.old self.new }
+    {
+        fault_of(store_all(&mut self.keeper, waiting))
     }
 
     // What came of a turn: something was given or made, or all is done, or neither.
@@ -339,6 +588,25 @@ fn is_to_server(message: &Message) -> bool
     ensures { IsTrue result ↔ (message.now.direction ≡ ToServer) }
 {
     matches!(message.direction, Direction::ToServer)
+}
+
+// Whether a host gives something back to a server by it.
+fn is_give_back(message: &Message) -> bool
+    ensures { IsTrue result → message.now.direction ≡ ToServer }
+{
+    is_to_server(message) && matches!(message.body, Body::GiveBack(_))
+}
+
+// What a node answers where its machine has tried its store.
+fn fault_of(tried: Result<(), ExporterFault>) -> Result<(), NodeFault>
+    ensures ok { OnOk result (IsOk tried) }
+    ensures err { result ≡ Err StoreFailed → tried ≡ Err OfStore }
+{
+    match tried {
+        Ok(()) => Ok(()),
+        Err(ExporterFault::Store) => Err(NodeFault::Store),
+        Err(ExporterFault::Memory) => Err(NodeFault::Memory),
+    }
 }
 
 // The step that a machine has made is handed in next.

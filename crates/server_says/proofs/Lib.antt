@@ -6,8 +6,10 @@ pub mod Picks
 pub mod StepsMade
 pub mod Told
 pub mod SoundSaid
+pub use Rattle.server_takes.proofs.Bodies
 pub use Rattle.server_takes.proofs.SoundTaken
 pub use Rattle.server_takes.proofs.Acting
+pub use Rattle.server_takes.proofs.GivenAgain
 pub use Rattle.server_takes.proofs.Asking
 pub use Rattle.server_takes.proofs.Granting
 pub use Rattle.server_takes.proofs.Numbers

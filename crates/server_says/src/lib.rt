@@ -17,6 +17,7 @@ pub use laws::claim_law;
 pub use revoking::revoke_all;
 pub use server_takes::{
     Draft, ExporterFault, Found, Keeper, bare, begin_epoch, do_call, enqueue, entries_told,
-    fileset_entered, found_by, pieces_told, refuse_call, take_message,
+    fileset_entered, found_by, gather_message, give_all, is_request, pieces_told, refuse_call,
+    take_message,
 };
 pub use writing::write_down;

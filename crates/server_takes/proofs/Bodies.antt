@@ -1,7 +1,7 @@
 -- What is taken of a message, case by case.
 use Rattle.std.proofs.Common.{◌≡◌, ◌∙◌, true, false, refl, sym, ap, subst}
-use Rattle.std.specs.Prelude.{◌==◌, ◌&&◌, if◌then◌else◌, Bool, List, [], Option, None, Result, Ok, Err, OnOk}
-use Rattle.std.proofs.lemmas.Bool.{ne_eqb}
+use Rattle.std.specs.Prelude.{◌==◌, ◌&&◌, not, if◌then◌else◌, Bool, List, [], Option, None, Result, Ok, Err, OnOk}
+use Rattle.std.proofs.lemmas.Bool.{and_parts, ne_eqb}
 use Rattle.base_types.specs.declared.user.User.{User}
 use Rattle.tree_calls.specs.declared.part.Status.{Status}
 use Rattle.token_types.specs.declared.token.Need.{Need}
@@ -23,7 +23,8 @@ use Rattle.base_types.specs.declared.ids.HostId.{HostId}
 use Rattle.server_tables.specs.Listing.{has_host, is_live}
 use Rattle.server_tables.specs.declared.tables.Tables.{Tables}
 use Rattle.server_takes.specs.Drafts.{saying, word}
-use Rattle.server_takes.specs.Messages.{IsFor, IsStoreOf, asks_store, body_state, needs_by, other_state, request_state}
+use Rattle.server_takes.specs.Messages.{IsFor, IsStoreOf, asks_store, body_state, is_request, needs_by, other_state}
+use Rattle.server_takes.specs.Messages.{request_state}
 use Rattle.server_takes.specs.Messages.{state_taken, told_by}
 use Rattle.server_takes.specs.Taking.{IsBodyTaken, IsOtherTaken, IsRequestTaken, IsTaken, Whether}
 use Rattle.server_takes.specs.declared.draft.Draft.{Draft}
@@ -198,3 +199,58 @@ state_now x m state body b n o =
     ap (λ (v : Bool). state_if x m state body true true v) (sym o)
     ∙ ap (λ (v : Bool). state_if x m state body true v (m.moves == 0)) (sym n)
     ∙ ap (λ (v : Bool). state_if x m state body v (m.epoch == x.hosts.epoch) (m.moves == 0)) (sym b)
+
+-- # A give-back that counts as a request
+
+not_false : (b : Bool) → not b ≡ true → b ≡ false
+not_false true e = absurd (cc)
+not_false false e = refl
+
+record Counts (x : Tables) (m : Message) : Type 0 where
+  pub up : has_host x.hosts.down m.host ≡ false
+  pub live : is_live x.hosts m.host ≡ true
+  pub now : (m.epoch == x.hosts.epoch) ≡ true
+  pub still : (m.moves == 0) ≡ true
+
+counts_so : (x : Tables) (m : Message) → is_request x m ≡ true → Counts x m
+counts_so x m e =
+    let p = and_parts (not (has_host x.hosts.down m.host)) _ e in
+    let q = and_parts (is_live x.hosts m.host) _ p.1 in
+    let r = and_parts (m.epoch == x.hosts.epoch) (m.moves == 0) q.1 in
+    record { up = not_false (has_host x.hosts.down m.host) p.0; live = q.0; now = r.0; still = r.1 }
+
+pub given_request : (x : Tables) (d : Draft) (m : Message) (needs : List Need) (told : Option Status) (y : Tables)
+    (e : Draft) (give : Give) → m.body ≡ GiveBack give → is_request x m ≡ true
+    → IsRequestTaken x d m.host needs told y e m.body → IsTaken x d m needs told y e
+given_request x d m needs told y e give is counts t =
+    let k = counts_so x m counts in
+    taken_up x d m needs told y e k.up
+    (other_taken x d m needs told y e m.body (λ b. clash_down (sym is ∙ b)) (λ b. clash_hello (sym is ∙ b))
+    (λ b. clash_bye (sym is ∙ b)) (taken_now x d m needs told y e k.live k.now k.still t))
+  where
+    clash_down : GiveBack give ≡ Down → ⊥
+    clash_down b = absurd (cc)
+
+    clash_hello : GiveBack give ≡ Hello → ⊥
+    clash_hello b = absurd (cc)
+
+    clash_bye : GiveBack give ≡ Bye → ⊥
+    clash_bye b = absurd (cc)
+
+pub request_given : (x : Tables) (m : Message) (state : StoreState) (give : Give) → m.body ≡ GiveBack give
+    → is_request x m ≡ true → request_state x m state m.body ≡ state_taken x m state
+request_given x m state give is counts =
+    let k = counts_so x m counts in
+    state_now x m state m.body k.live k.now k.still
+    ∙ body_other x m state m.body (λ b. clash_down (sym is ∙ b)) (λ b. clash_hello (sym is ∙ b))
+    (λ b. clash_bye (sym is ∙ b))
+    ∙ state_up x m state k.up
+  where
+    clash_down : GiveBack give ≡ Down → ⊥
+    clash_down b = absurd (cc)
+
+    clash_hello : GiveBack give ≡ Hello → ⊥
+    clash_hello b = absurd (cc)
+
+    clash_bye : GiveBack give ≡ Bye → ⊥
+    clash_bye b = absurd (cc)

@@ -1,7 +1,9 @@
 pub mod Bodies
+pub mod Gathered
 pub mod Parts
 pub mod SoundTaken
 pub use Rattle.server_looks.proofs.Acting
+pub use Rattle.server_looks.proofs.GivenAgain
 pub use Rattle.server_looks.proofs.Asking
 pub use Rattle.server_looks.proofs.Granting
 pub use Rattle.server_looks.proofs.Numbers

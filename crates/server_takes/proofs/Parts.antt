@@ -23,7 +23,7 @@ use Rattle.run_rules.specs.Past.{In}
 use Rattle.run_rules.specs.Tokens.{number_of}
 use Rattle.run_rules.specs.declared.applied.Request.{Request}
 use Rattle.run_rules.specs.declared.applied.Request.TheVariants.{Change as Changes, Fetch as Asks}
-use Rattle.server_looks.specs.Acts.{IsRepeatable, giving, host_noted}
+use Rattle.server_looks.specs.Acts.{giving, host_noted}
 use Rattle.server_tables.specs.Answers.{answer_again, is_old}
 use Rattle.server_tables.specs.Claims.{answer_to, taking_one, ups_of}
 use Rattle.server_tables.specs.Counting.{AreCounted, IsCounted}
@@ -291,15 +291,6 @@ pub stored_none : (host : HostId) (give : Give) (state : StoreState) (may : Bool
     → state ≡ store_given host give state
 stored_none host give state may e f = ap (λ (b : Bool). if b then (act_done state (giving host give)).state else state)
     (sym f ∙ e)
-
-pub stored_some : (host : HostId) (give : Give) (state mid after : StoreState) (may : Bool) → may ≡
-    (has_some give && takes_gifts (status_told state give.fid)) → may ≡ true
-    → mid ≡ state → (IsRepeatable mid (giving host give) → after ≡ (act_done mid (giving host give)).state)
-    → IsRepeatable state (giving host give)
-    → after ≡ store_given host give state
-stored_some host give state mid after may e f m g r =
-    subst (λ (s : StoreState). IsRepeatable s (giving host give) → after ≡ (act_done s (giving host give)).state) m g r
-    ∙ ap (λ (b : Bool). if b then (act_done state (giving host give)).state else state) (sym f ∙ e)
 
 pub keeping_none : (d : Draft) (host : HostId) (give : Give) (state : StoreState) (may : Bool) → may ≡
     (has_some give && takes_gifts (status_told state give.fid)) → may ≡ false

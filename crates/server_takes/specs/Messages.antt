@@ -1,15 +1,19 @@
 -- What any message that comes makes of a server's tables, its step and its store.
-use Rattle.std.specs.Prelude.{◌≡◌, ◌==◌, Bool, true, false, ◌&&◌, if◌then◌else◌, List, [], Option, None}
+use Rattle.std.specs.Prelude.{◌≡◌, ◌==◌, ◌⊎◌, ◌++◌, ◌∷◌, not, Bool, true, false, ◌&&◌, if◌then◌else◌, List, [], Option}
+use Rattle.std.specs.Prelude.{None}
+use Rattle.base_types.specs.declared.ids.HostId.{HostId}
 use Rattle.base_types.specs.declared.ids.ServerId.{ServerId}
 use Rattle.base_types.specs.declared.user.User.{User}
 use Rattle.tree_calls.specs.declared.part.Status.{Status}
 use Rattle.tree_calls.specs.declared.roster.Roster.{Roster}
 use Rattle.token_types.specs.declared.token.Need.{Need}
 use Rattle.message_types.specs.Soundness.{IsSound}
+use Rattle.message_types.specs.declared.giving.Give.{Give}
 use Rattle.message_types.specs.declared.message.Body.{Body}
 use Rattle.message_types.specs.declared.message.Body.TheVariants.{Bye, Change, Down, GiveBack, Hello}
 use Rattle.message_types.specs.declared.message.Direction.TheVariants.{ToServer}
 use Rattle.message_types.specs.declared.message.Message.{Message}
+use Rattle.store_acts.specs.declared.act.Act.{Act}
 use Rattle.store_memory.specs.Reading.{status_told}
 use Rattle.store_state.specs.declared.state.HostState.TheVariants.{IsDown}
 use Rattle.store_state.specs.declared.state.StoreState.{StoreState}
@@ -63,6 +67,14 @@ IsStored m state _ = Unit {0}
 -- a message of this epoch, from a live host
 abbrev pub is_current : Tables → Message → Bool
 is_current x m = is_live x.hosts m.host && ((m.epoch == x.hosts.epoch) && (m.moves == 0))
+
+-- and that hasn't stopped
+abbrev pub is_request : Tables → Message → Bool
+is_request x m = not (has_host x.hosts.down m.host) && is_current x m
+
+-- at most one give-back more waits to be stored
+abbrev pub IsOneMore : HostId → Give → List Act → List Act → Type 0
+IsOneMore host give old new = (new ≡ old) ⊎ (new ≡ old ++ giving host give ∷ [])
 
 -- it asks the store something
 abbrev pub asks_store : Body → Bool

@@ -3,13 +3,15 @@ ghost use Rattle.base_types.specs.declared.limits.TheConstants.{FILE_BYTES_MAX};
 ghost use Rattle.message_types.specs.Soundness.{Each};
 ghost use Rattle.run_rules.specs.ServerDecides.{span_of};
 ghost use Rattle.run_rules.specs.Tokens.{number_of};
-ghost use Rattle.server_looks.specs.Acts.{IsRepeatable, giving};
+ghost use Rattle.server_looks.specs.Acts.{IsGive, IsRepeatable, giving};
 ghost use Rattle.server_looks.specs.Keepers.{GoesOn, HasAsked, HasTried, IsFit};
 ghost use Rattle.server_tables.specs.Counting.{IsCounted};
 ghost use Rattle.server_tables.specs.Gives.{given};
 ghost use Rattle.server_takes.specs.Taking.{all_kept, all_returned, answer_by, ending, freed, give_applied, give_draft};
 ghost use Rattle.server_takes.specs.Taking.{give_state, give_tables, has_some, is_first, keeping, kept_tables, noted};
 ghost use Rattle.server_takes.specs.Taking.{returned_tables, store_given, takes_gifts};
+ghost use Rattle.server_takes.specs.Messages.{IsOneMore};
+ghost use Rattle.store_acts.specs.Acts.{state_after};
 ghost use Rattle.store_acts.specs.Sound.{IsAct};
 ghost use Rattle.store_memory.specs.Reading.{status_told};
 ghost use Rattle.tree_calls.specs.declared.part.Piece.{Piece};
@@ -19,9 +21,9 @@ use crate::draft::Draft;
 use base_types::{HostId, Items, NoMemory, Plain, Span};
 use message_types::{AppliedGive, Body, Ends, Give, Named};
 use run_rules::{Answer, Applied};
-use server_looks::{ExporterFault, Keeper};
+use server_looks::{ExporterFault, Keeper, act_of_give, give_all};
 use server_tables::Tables;
-use store_memory::Store;
+use store_memory::{Act, Store};
 use token_manager::TokenManager;
 use token_types::TokenId;
 use tree_calls::{Piece, Reply, Status};
@@ -85,41 +87,75 @@ pub(crate) fn take_give_back<S: Store>(
     ensures tried { HasTried result (S.view keeper.old.store) (S.view keeper.new.store) keeper.new.left }
     ensures went { S.tells → GoesOn (S.view keeper.old.store) (S.view keeper.new.store) }
 {
+    let mut waiting = Items::new(tables.alloc());
+    gather_give_back(tables, keeper, &mut waiting, draft, host, give)?;
+    give_all(keeper, waiting.as_slice())
+}
+
+/// The same of one that is the first of its number, of a file that may be changed, but that it waits to be stored,
+/// behind what waits already.
+pub(crate) fn gather_give_back<S: Store>(
+    tables: &mut Tables,
+    keeper: &mut Keeper<S>,
+    waiting: &mut Items<Act>,
+    draft: &mut Draft,
+    host: HostId,
+    give: &Give,
+) -> Result<(), ExporterFault>
+    requires counted { IsCounted tables.old }
+    requires gives { Each IsGive waiting.old }
+    requires act { IsAct (S.view keeper.old.store).state.roster (S.view keeper.old.store).state.server
+        (giving host give.now) }
+    requires fit { IsFit (S.view keeper.old.store) keeper.old.left }
+    ensures tables { OnOk result (tables.new ≡ give_tables tables.old host give.now) }
+    ensures draft { S.tells → OnOk result (draft.new ≡ give_draft tables.old draft.old host give.now
+        (status_told (state_after (S.view keeper.old.store).state waiting.old) give.now.fid)) }
+    ensures heard { OnOk result
+        ((told : Option Told) × (draft.new ≡ give_draft tables.old draft.old host give.now told)) }
+    ensures state { S.tells → OnOk result (state_after (S.view keeper.new.store).state waiting.new
+        ≡ give_state tables.old host give.now (state_after (S.view keeper.old.store).state waiting.old)) }
+    ensures waits { OnOk result (IsOneMore host give.now waiting.old waiting.new) }
+    ensures counted { OnOk result (IsCounted tables.new) }
+    ensures asked { HasAsked S.tells result (S.view keeper.old.store) (S.view keeper.new.store) keeper.new.left }
+    ensures went { S.tells → GoesOn (S.view keeper.old.store) (S.view keeper.new.store) }
+{
     if !tables.is_here(give.fid.fileset) {
         return Ok(());
     }
-    apply_first(tables, keeper, draft, host, give)?;
+    gather_first(tables, keeper, waiting, draft, host, give)?;
     draft.say(tables, host, Body::Gone(number_of(give)))?;
     note_given(tables, host, give)?;
     Ok(())
 }
 
-/// A give-back that is the first of its number is stored, and ends its call.
-fn apply_first<S: Store>(
+/// A give-back that is the first of its number waits to be stored, and ends its call.
+fn gather_first<S: Store>(
     tables: &Tables,
     keeper: &mut Keeper<S>,
+    waiting: &mut Items<Act>,
     draft: &mut Draft,
     host: HostId,
     give: &Give,
 ) -> Result<(), ExporterFault>
+    requires gives { Each IsGive waiting.old }
     requires act { IsAct (S.view keeper.old.store).state.roster (S.view keeper.old.store).state.server
         (giving host give.now) }
     requires fit { IsFit (S.view keeper.old.store) keeper.old.left }
     ensures draft { S.tells → OnOk result (draft.new ≡ give_applied tables.now draft.old host give.now
-        (status_told (S.view keeper.old.store).state give.now.fid)) }
+        (status_told (state_after (S.view keeper.old.store).state waiting.old) give.now.fid)) }
     ensures heard { OnOk result
         ((told : Option Told) × (draft.new ≡ give_applied tables.now draft.old host give.now told)) }
-    ensures state { S.tells → IsRepeatable (S.view keeper.old.store).state (giving host give.now)
-        → OnOk result ((S.view keeper.new.store).state
-        ≡ (if is_first tables.now host give.now then store_given host give.now (S.view keeper.old.store).state
-        else (S.view keeper.old.store).state)) }
-    ensures tried { HasTried result (S.view keeper.old.store) (S.view keeper.new.store) keeper.new.left }
+    ensures state { let state = state_after (S.view keeper.old.store).state waiting.old in S.tells
+        → OnOk result (state_after (S.view keeper.new.store).state waiting.new
+        ≡ (if is_first tables.now host give.now then store_given host give.now state else state)) }
+    ensures waits { OnOk result (IsOneMore host give.now waiting.old waiting.new) }
+    ensures asked { HasAsked S.tells result (S.view keeper.old.store) (S.view keeper.new.store) keeper.new.left }
     ensures went { S.tells → GoesOn (S.view keeper.old.store) (S.view keeper.new.store) }
 {
     if !is_first(tables, host, give) {
         return Ok(());
     }
-    store(keeper, draft, host, give)?;
+    gather(keeper, waiting, draft, host, give)?;
     end_call(draft, host, give)?;
     Ok(())
 }
@@ -197,30 +233,35 @@ fn return_all(tokens: &mut TokenManager, host: HostId, ids: &[TokenId])
     }
 }
 
-/// Stores what is given back of a file that is there and may be changed.
-fn store<S: Store>(
+/// What is given back of a file that is there and may be changed waits to be stored. Whether it may be changed doesn't
+/// change by what waits already.
+fn gather<S: Store>(
     keeper: &mut Keeper<S>,
+    waiting: &mut Items<Act>,
     draft: &mut Draft,
     host: HostId,
     give: &Give,
 ) -> Result<(), ExporterFault>
+    requires gives { Each IsGive waiting.old }
     requires act { IsAct (S.view keeper.old.store).state.roster (S.view keeper.old.store).state.server
         (giving host give.now) }
     requires fit { IsFit (S.view keeper.old.store) keeper.old.left }
-    ensures draft { S.tells → OnOk result (draft.new ≡ keeping draft.old host give.now
-        (has_some give.now && takes_gifts (status_told (S.view keeper.old.store).state give.now.fid))) }
+    ensures draft { let state = state_after (S.view keeper.old.store).state waiting.old in S.tells
+        → OnOk result (draft.new ≡ keeping draft.old host give.now
+        (has_some give.now && takes_gifts (status_told state give.now.fid))) }
     ensures heard { OnOk result ((told : Option Told)
         × (draft.new ≡ keeping draft.old host give.now (has_some give.now && takes_gifts told))) }
-    ensures state { S.tells → IsRepeatable (S.view keeper.old.store).state (giving host give.now)
-        → OnOk result ((S.view keeper.new.store).state
-        ≡ store_given host give.now (S.view keeper.old.store).state) }
-    ensures tried { HasTried result (S.view keeper.old.store) (S.view keeper.new.store) keeper.new.left }
+    ensures state { let state = state_after (S.view keeper.old.store).state waiting.old in S.tells
+        → OnOk result (state_after (S.view keeper.new.store).state waiting.new ≡ store_given host give.now state) }
+    ensures waits { OnOk result (IsOneMore host give.now waiting.old waiting.new) }
+    ensures asked { HasAsked S.tells result (S.view keeper.old.store) (S.view keeper.new.store) keeper.new.left }
     ensures went { S.tells → GoesOn (S.view keeper.old.store) (S.view keeper.new.store) }
 {
     if !may_store(keeper, give)? {
         return Ok(());
     }
-    server_looks::give(keeper, host, give)?;
+    let act = act_of_give(host, give)?;
+    waiting.push(act)?;
     note_stored(draft, host, give)?;
     Ok(())
 }

@@ -12,6 +12,6 @@ pub use asking::enqueue;
 pub use draft::{Draft, bare};
 pub use server_looks::{
     ExporterFault, Found, Keeper, begin_epoch, do_call, entries_told, fileset_entered, found_by,
-    pieces_told, refuse_call,
+    give_all, pieces_told, refuse_call,
 };
-pub use taking::take_message;
+pub use taking::{gather_message, is_request, take_message};

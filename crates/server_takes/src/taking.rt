@@ -1,23 +1,27 @@
-ghost use Rattle.std.specs.Prelude.{◌≡◌, false, [], Some, None, OnOk};
+ghost use Rattle.std.specs.Prelude.{◌≡◌, true, false, [], Some, None, OnOk};
 ghost use Rattle.base_types.specs.declared.user.User.{User};
-ghost use Rattle.server_looks.specs.Keepers.{GoesOn, HasTried, IsFit};
+ghost use Rattle.message_types.specs.Soundness.{Each};
+ghost use Rattle.message_types.specs.declared.message.Body.TheVariants.{GiveBack};
+ghost use Rattle.server_looks.specs.Acts.{IsGive};
+ghost use Rattle.server_looks.specs.Keepers.{GoesOn, HasAsked, HasTried, IsFit};
 ghost use Rattle.server_tables.specs.Counting.{IsCounted};
-ghost use Rattle.server_takes.specs.Messages.{IsFor, IsHeard, IsHeardBy, IsStored, IsStoreOf, IsTakenOf};
-ghost use Rattle.server_takes.specs.Messages.{asks_store, needs_by};
+ghost use Rattle.server_takes.specs.Messages.{IsFor, IsHeard, IsHeardBy, IsOneMore, IsStored, IsStoreOf, IsTakenOf};
+ghost use Rattle.server_takes.specs.Messages.{asks_store, is_request, needs_by};
 ghost use Rattle.server_takes.specs.Messages.{other_state, request_state, state_taken, told_by};
 ghost use Rattle.server_takes.specs.Taking.{IsOtherTaken, IsRequestTaken};
+ghost use Rattle.store_acts.specs.Acts.{state_after};
 ghost use Rattle.tree_calls.specs.Rosters.{user_of};
 
 use crate::asking::{take_change, take_fetch};
 use crate::claiming::take_claim;
 use crate::draft::Draft;
-use crate::giving::{take_give_back, take_kept, take_returned};
+use crate::giving::{gather_give_back, take_give_back, take_kept, take_returned};
 use crate::greeting::{take_bye, take_down, take_hello};
-use base_types::NoMemory;
-use message_types::{Body, Message};
+use base_types::{Items, NoMemory};
+use message_types::{Body, Give, Message};
 use server_looks::{ExporterFault, Keeper};
 use server_tables::Tables;
-use store_memory::Store;
+use store_memory::{Act, Store};
 
 /// What a message that came makes of the tables and of the store, and what is said to it at once. Nothing is taken of a
 /// host that has stopped; of one that isn't live a greeting and a farewell alone; and what was sent in another epoch is
@@ -141,4 +145,44 @@ fn take_alone(tables: &mut Tables, draft: &mut Draft, message: &Message) -> Resu
         Body::Reclaim(claim) => take_claim(tables, draft, host, claim),
         _ => Ok(()),
     }
+}
+
+/// Whether a message counts as a request: it is of this epoch, from a live host that hasn't stopped.
+pub fn is_request(tables: &Tables, message: &Message) -> bool
+    ensures { result ≡ is_request tables.now message.now }
+{
+    let host = message.host;
+    !tables.hosts.is_down(host)
+        && (tables.hosts.is_live(host)
+            && (message.epoch == tables.hosts.epoch && message.moves == 0))
+}
+
+/// What a give-back that counts as a request makes of the tables, and what is said to it at once. What it brings waits
+/// to be stored, behind what waits already.
+pub fn gather_message<S: Store>(
+    tables: &mut Tables,
+    keeper: &mut Keeper<S>,
+    waiting: &mut Items<Act>,
+    draft: &mut Draft,
+    message: &Message,
+    give: &Give,
+) -> Result<(), ExporterFault>
+    requires counted { IsCounted tables.old }
+    requires given { IsFor tables.old.server tables.old.roster message.now }
+    requires counts { is_request tables.old message.now ≡ true }
+    requires body { message.now.body ≡ GiveBack give.now }
+    requires of { IsStoreOf tables.old (S.view keeper.old.store).state }
+    requires gives { Each IsGive waiting.old }
+    requires fit { IsFit (S.view keeper.old.store) keeper.old.left }
+    ensures taken { S.tells → (user : User) → OnOk result (IsTakenOf tables.old draft.old message.now user
+        (state_after (S.view keeper.old.store).state waiting.old) tables.new draft.new) }
+    ensures heard { OnOk result (IsHeard tables.old draft.old message.now tables.new draft.new) }
+    ensures state { S.tells → OnOk result (state_after (S.view keeper.new.store).state waiting.new
+        ≡ state_taken tables.old message.now (state_after (S.view keeper.old.store).state waiting.old)) }
+    ensures waits { OnOk result (IsOneMore message.now.host give.now waiting.old waiting.new) }
+    ensures counted { OnOk result (IsCounted tables.new) }
+    ensures asked { HasAsked S.tells result (S.view keeper.old.store) (S.view keeper.new.store) keeper.new.left }
+    ensures went { S.tells → GoesOn (S.view keeper.old.store) (S.view keeper.new.store) }
+{
+    gather_give_back(tables, keeper, waiting, draft, message.host, give)
 }

@@ -155,9 +155,9 @@ fn drive_all<S: Store + Drop + Send, R: Threads + Wait + Sync, G: Gate + Sync>(
 /// in their order, whatever comes.
 ///
 /// `Failed` comes only where the store of a server failed twice, and `Stuck` only where all hosts and servers have come
-/// to rest: in its newest round each handed in nothing and was given nothing, and none has made anything; one that isn't
-/// done by its own steps is named, with its next line. `Memory` may come at any time, as far as clauses say: it is meant
-/// where memory runs out. It may wait for what never comes about.
+/// to rest: in its newest round each handed in nothing and was given nothing, and none has made anything; one that
+/// isn't done by its own steps is named, with its next line. `Memory` may come at any time, as far as clauses say: it
+/// is meant where memory runs out. It may wait for what never comes about.
 ///
 /// However it ended there is a journal so far: as far as the stores tell what they keep it is a run of the script in
 /// which what is due is done, and each change that was acknowledged in it is in its store; and where all came to rest

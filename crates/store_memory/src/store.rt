@@ -51,8 +51,8 @@ impl From<NoMemory> for StoreFault {
 ///
 /// Of a fault: `Memory` of a call that only tells something leaves the store as it was. After another fault `reopen`
 /// has to succeed before anything else is asked. After a fault of `apply` the store holds what the first acts of the
-/// batch made, up to one of them, and that is what a crash at any moment of the call leaves, or what one could have left
-/// before. `Failed` comes only where the disk's count of faults rose and its last call failed.
+/// batch made, up to one of them, and that is what a crash at any moment of the call leaves, or what one could have
+/// left before. `Failed` comes only where the disk's count of faults rose and its last call failed.
 ///
 /// The acts and what they leave are this project's own; that a server keeps what it replies, and replies it again, is
 /// after Kazar et al., "DEcorum File System Architectural Overview", 1990.

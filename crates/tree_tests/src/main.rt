@@ -1,6 +1,6 @@
 //! The reference tree, and the types below it, by example. Standard input is a table: each row is a call of a host, or
-//! what becomes kept or lost, or a question to the types below, and behind ` = ` the reply that is wanted. Every row that
-//! gets another one is printed, and at the end the number of rows.
+//! what becomes kept or lost, or a question to the types below, and behind ` = ` the reply that is wanted. Every row
+//! that gets another one is printed, and at the end the number of rows.
 #![tactic(auto)]
 
 mod access;

@@ -1,16 +1,16 @@
 use Rattle.std.proofs.Common.{◌∙◌, arith, refl}
 use Rattle.script_output.proofs.Spelled.{stands_more, escaped_more}
 use Rattle.script_output.proofs.texts.push_spelled.Goals as goal
-use Rattle.script_output.proofs.texts.push_spelled.Goals.{then-is_escaped+in_ok-extend+in_ok-push_byte, else-is_escaped}
+use Rattle.script_output.proofs.texts.push_spelled.Goals.{then-is_escaped+in_ok-push_piece+in_ok-push_byte, else-is_escaped}
 
 pub loop-at-preserved : goal.loop-at-preserved
 loop-at-preserved c =
     let lt = c.loop-at-test.true in let order = c.loop-at.invariant.order in
     let bytes = c.args.bytes.now in let at = c.loop-at.at in
     elim c.if-is_escaped.branch [
-      | then-is_escaped+in_ok-extend+in_ok-push_byte w ↦ (
+      | then-is_escaped+in_ok-push_piece+in_ok-push_byte w ↦ (
           let from = w.from-is in
-          let piece = w.in_ok-extend.ensures.ok in
+          let piece = w.in_ok-push_piece.ensures in
           let escape = w.in_ok-push_byte.ensures in
           record {
             order = omega (arith, from);

@@ -14,7 +14,7 @@ send_all-requires-clause-served g c =
 
 pub next_due-requires-clause-served : goal.next_due-requires-clause-served
 next_due-requires-clause-served g c =
-    back_served (g.S.Store.view c.send_all.new.keeper.store) c.send_all.new.tables c.revoke_all.new.tables
+    back_served (g.S.Store.view c.send_all.new.keeper.store).state c.send_all.new.tables c.revoke_all.new.tables
     c.send_all.new.draft (not_asked (wanted c.send_all.new.tables.tokens)) c.in_ok-revoke_all.ensures.tables
     c.in_ok-send_all.ensures.served
 
@@ -38,7 +38,7 @@ pub returns-clause-served : goal.returns-clause-served
 returns-clause-served g c =
     served_asked c.revoke_all.new.tables (g.S.Store.view c.send_all.new.keeper.store)
     (g.S.Store.view c.next_due.new.keeper.store)
-    (back_served (g.S.Store.view c.send_all.new.keeper.store) c.send_all.new.tables c.revoke_all.new.tables
+    (back_served (g.S.Store.view c.send_all.new.keeper.store).state c.send_all.new.tables c.revoke_all.new.tables
     c.send_all.new.draft (not_asked (wanted c.send_all.new.tables.tokens)) c.in_ok-revoke_all.ensures.tables
     c.in_ok-send_all.ensures.served)
     c.in_ok-next_due.ensures.asked.tried.same

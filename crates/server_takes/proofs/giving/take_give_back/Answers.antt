@@ -1,55 +1,71 @@
-use Rattle.std.proofs.Common.{◌≡◌, ◌∙◌, ap, true, false}
-use Rattle.std.specs.Prelude.{None}
-use Rattle.message_types.specs.declared.giving.AppliedGive.{AppliedGive}
-use Rattle.message_types.specs.declared.message.Body.TheVariants.{Gone}
+use Rattle.std.proofs.Common.{◌≡◌, ◌∙◌, List, [], ap, sym, subst}
+use Rattle.std.specs.Prelude.{OnOk}
+use Rattle.std.proofs.lemmas.Result.{on_ok_weaker}
+use Rattle.base_types.specs.declared.ids.ServerId.{ServerId}
+use Rattle.tree_calls.specs.declared.roster.Roster.{Roster}
+use Rattle.store_acts.specs.Acts.{state_after}
+use Rattle.message_types.specs.Soundness.{Each}
+use Rattle.store_acts.specs.Sound.{AreActs, IsAct}
+use Rattle.store_acts.specs.declared.act.Act.{Act}
 use Rattle.store_memory.specs.Reading.{status_told}
-use Rattle.server_takes.proofs.Parts.{draft_elsewhere, draft_here, given_elsewhere, given_here, state_elsewhere}
-use Rattle.server_takes.proofs.Parts.{state_here}
-use Rattle.server_takes.specs.Drafts.{saying, word}
+use Rattle.server_looks.specs.Acts.{AreRepeatable, IsGive, giving}
+use Rattle.server_takes.proofs.Bodies.{on_ok_is}
+use Rattle.server_takes.proofs.Gathered.{one_acts, one_gives, one_repeats}
+use Rattle.server_takes.specs.Messages.{IsOneMore}
+use Rattle.server_takes.specs.Taking.{give_draft, give_state}
 use Rattle.server_takes.proofs.giving.take_give_back.Goals as goal
 
-pub returns-then-not-is_here-clause-tables : goal.returns-then-not-is_here-clause-tables
-returns-then-not-is_here-clause-tables g c = given_elsewhere c.args.tables.now c.args.host c.args.give.now (cc)
+pub give_all-requires-clause-acts : goal.give_all-requires-clause-acts
+give_all-requires-clause-acts g c =
+    let start = (g.S.Store.view c.args.keeper.now.store).state in
+    let same = c.in_ok-gather_give_back.ensures.asked.tried.same in
+    let act = giving c.args.host c.args.give.now in
+    let mid = (g.S.Store.view c.gather_give_back.new.keeper.store).state in
+    let more = subst (λ (w : List Act). IsOneMore c.args.host c.args.give.now w c.gather_give_back.new.waiting)
+    c.new-waiting.ensures c.in_ok-gather_give_back.ensures.waits in
+    subst (λ (l : List Act). AreActs mid.roster mid.server l) (sym c.as_slice.ensures)
+    (one_acts c.args.host c.args.give.now c.gather_give_back.new.waiting mid.roster mid.server more
+    (subst (λ (r : Roster). IsAct r mid.server act) (sym same.roster)
+    (subst (λ (s : ServerId). IsAct start.roster s act) (sym same.server) c.requires.act)))
 
-pub returns-then-not-is_here-clause-draft : goal.returns-then-not-is_here-clause-draft
-returns-then-not-is_here-clause-draft g c tells =
-    draft_elsewhere c.args.tables.now c.args.draft.now c.args.host c.args.give.now
-    (status_told (g.S.Store.view c.args.keeper.now.store).state c.args.give.now.fid) (cc)
+pub give_all-requires-clause-gives : goal.give_all-requires-clause-gives
+give_all-requires-clause-gives g c =
+    let more = subst (λ (w : List Act). IsOneMore c.args.host c.args.give.now w c.gather_give_back.new.waiting)
+    c.new-waiting.ensures c.in_ok-gather_give_back.ensures.waits in
+    subst (λ (l : List Act). Each IsGive l) (sym c.as_slice.ensures)
+    (one_gives c.args.host c.args.give.now c.gather_give_back.new.waiting more c.requires.act.2)
 
-pub returns-then-not-is_here-clause-state : goal.returns-then-not-is_here-clause-state
-returns-then-not-is_here-clause-state g c tells again =
-    state_elsewhere c.args.tables.now c.args.host c.args.give.now (g.S.Store.view c.args.keeper.now.store).state (cc)
+pub gather_give_back-requires-clause-gives : goal.gather_give_back-requires-clause-gives
+gather_give_back-requires-clause-gives g c = rw c.new-waiting.ensures tt
 
 pub returns-clause-tables : goal.returns-clause-tables
-returns-clause-tables g c = c.in_ok-note_given.ensures.tables ∙ given_here c.args.tables.now c.args.host c.args.give.now
-    (cc)
+returns-clause-tables g c = on_ok_is c.give_all.result _ c.in_ok-gather_give_back.ensures.tables
+
+pub returns-clause-heard : goal.returns-clause-heard
+returns-clause-heard g c = on_ok_is c.give_all.result _ c.in_ok-gather_give_back.ensures.heard
+
+pub returns-clause-counted : goal.returns-clause-counted
+returns-clause-counted g c = on_ok_is c.give_all.result _ c.in_ok-gather_give_back.ensures.counted
 
 pub returns-clause-draft : goal.returns-clause-draft
 returns-clause-draft g c tells =
-    let x = c.args.tables.now in
-    let d = c.args.draft.now in
-    let host = c.args.host in
-    let give = c.args.give.now in
-    let mid = c.apply_first.new.draft in
-    c.in_ok-say.ensures ∙ ap (λ (n : AppliedGive). saying mid (word x host (Gone n))) c.number_of.ensures
-    ∙ draft_here x d host give (status_told (g.S.Store.view c.args.keeper.now.store).state give.fid) mid (cc)
-    (c.in_ok-apply_first.ensures.draft tells)
+    let start = (g.S.Store.view c.args.keeper.now.store).state in
+    on_ok_is c.give_all.result _
+    (c.in_ok-gather_give_back.ensures.draft tells
+    ∙ ap (λ (w : List Act). give_draft c.args.tables.now c.args.draft.now c.args.host c.args.give.now
+    (status_told (state_after start w) c.args.give.now.fid)) c.new-waiting.ensures)
 
 pub returns-clause-state : goal.returns-clause-state
 returns-clause-state g c tells again =
-    c.in_ok-apply_first.ensures.state tells again ∙ state_here c.args.tables.now c.args.host c.args.give.now
-    (g.S.Store.view c.args.keeper.now.store).state (cc)
-
-pub returns-then-not-is_here-clause-heard : goal.returns-then-not-is_here-clause-heard
-returns-then-not-is_here-clause-heard g c =
-    (None, draft_elsewhere c.args.tables.now c.args.draft.now c.args.host c.args.give.now None (cc))
-
-pub returns-clause-heard : goal.returns-clause-heard
-returns-clause-heard g c =
-    let x = c.args.tables.now in
-    let mid = c.apply_first.new.draft in
-    let h = c.in_ok-apply_first.ensures.heard in (
-      h.0,
-      c.in_ok-say.ensures ∙ ap (λ (n : AppliedGive). saying mid (word x c.args.host (Gone n))) c.number_of.ensures
-          ∙ draft_here x c.args.draft.now c.args.host c.args.give.now h.0 mid (cc) h.1,
-    )
+    let start = (g.S.Store.view c.args.keeper.now.store).state in
+    let mid = (g.S.Store.view c.gather_give_back.new.keeper.store).state in
+    let more = subst (λ (w : List Act). IsOneMore c.args.host c.args.give.now w c.gather_give_back.new.waiting)
+    c.new-waiting.ensures c.in_ok-gather_give_back.ensures.waits in
+    on_ok_weaker c.give_all.result
+    (λ e. e ∙ ap (λ (l : List Act). state_after mid l) c.as_slice.ensures
+    ∙ c.in_ok-gather_give_back.ensures.state tells
+    ∙ ap (λ (w : List Act). give_state c.args.tables.now c.args.host c.args.give.now (state_after start w))
+    c.new-waiting.ensures)
+    (c.give_all.ensures.state tells (subst (λ (l : List Act). AreRepeatable mid l) (sym c.as_slice.ensures)
+    (one_repeats c.args.host c.args.give.now c.gather_give_back.new.waiting start mid
+    (c.in_ok-gather_give_back.ensures.asked.state tells) more again)))

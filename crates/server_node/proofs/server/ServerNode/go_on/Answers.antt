@@ -1,9 +1,10 @@
+use Rattle.std.proofs.Common.{[]}
 use Rattle.server_node.specs.Laws.{fails_later, stays_on}
 use Rattle.server_node.proofs.server.ServerNode.go_on.Goals as goal
 
 pub returns-in-Ok-clause-works : goal.returns-in-Ok-clause-works
 returns-in-Ok-clause-works g c = λ part past so.
-    c.settle.ensures.works part past (c.in-Ok.ensures.works part past so)
+    c.settle.ensures.works part past [] 0 (c.in-Ok.ensures.works part past so)
 
 pub returns-in-Ok-clause-stays : goal.returns-in-Ok-clause-stays
 returns-in-Ok-clause-stays g c =

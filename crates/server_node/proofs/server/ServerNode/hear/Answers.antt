@@ -49,7 +49,8 @@ returns-then-is_to_server-clause-failed g c = λ e. c.take-made.ensures.tried.bl
 -- what another server says is let go
 pub returns-clause-works : goal.returns-clause-works
 returns-clause-works g c = λ part past so.
-    stands_on g.S.Store.tells g.S.Store.view part c.args.self.now past c.args.steps.now.steps (c.args.message ∷ []) 0 so
+    stands_on g.S.Store.tells g.S.Store.view part c.args.self.now past c.args.steps.now.steps (c.args.message ∷ []) 0
+    (g.S.Store.view c.args.self.now.keeper.store).state so
 
 pub returns-clause-stays : goal.returns-clause-stays
 returns-clause-stays g c = stays_so g.S.Store.tells g.S.Store.view c.args.self.now

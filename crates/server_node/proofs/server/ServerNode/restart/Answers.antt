@@ -12,7 +12,13 @@ go-requires g c = next_below c.args.self.now.lines c.requires.next.0 c.requires.
 pub returns-clause-ready : goal.returns-clause-ready
 returns-clause-ready g c =
     let now : ServerNode g.row.S.Denot =
-    record { exporter = c.restart-made.new.self; keeper = c.restart-made.new.keeper; lines = c.go.new.self } in
+    record {
+      exporter = c.restart-made.new.self;
+      keeper = c.restart-made.new.keeper;
+      lines = c.go.new.self;
+      inbox =
+          c.args.self.now.inbox;
+    } in
     ready_then g.S.Store.tells g.S.Store.view c.restart-made.result c.push_made.result now
     (g.S.Store.view c.args.self.now.keeper.store) c.push_made.ensures.made c.restart-made.ensures.served
     (c.restart-made.ensures.sound c.requires.ready.sound) c.restart-made.ensures.tried
@@ -20,7 +26,13 @@ returns-clause-ready g c =
 pub returns-clause-works : goal.returns-clause-works
 returns-clause-works g c = λ part past so.
     let now : ServerNode g.row.S.Denot =
-    record { exporter = c.restart-made.new.self; keeper = c.restart-made.new.keeper; lines = c.go.new.self } in
+    record {
+      exporter = c.restart-made.new.self;
+      keeper = c.restart-made.new.keeper;
+      lines = c.go.new.self;
+      inbox =
+          c.args.self.now.inbox;
+    } in
     pushed c.restart-made.result c.push_made.result c.args.steps.now.steps c.push_made.new.steps.steps
     (λ (l : List Step). StandsSo g.S.Store.tells g.S.Store.view part now past l [] 0) c.push_made.ensures.made
     c.push_made.ensures.ok
@@ -33,7 +45,13 @@ returns-clause-works g c = λ part past so.
 pub returns-clause-stays : goal.returns-clause-stays
 returns-clause-stays g c =
     let now : ServerNode g.row.S.Denot =
-    record { exporter = c.restart-made.new.self; keeper = c.restart-made.new.keeper; lines = c.go.new.self } in
+    record {
+      exporter = c.restart-made.new.self;
+      keeper = c.restart-made.new.keeper;
+      lines = c.go.new.self;
+      inbox =
+          c.args.self.now.inbox;
+    } in
     served_by g.S.Store.tells g.S.Store.view c.restart-made.result c.args.self.now now c.restart-made.ensures.tried
     c.restart-made.ensures.went
 

@@ -1,18 +1,21 @@
-use Rattle.std.proofs.Common.{◌∙◌}
+use Rattle.std.proofs.Common.{◌∙◌, refl}
 use Rattle.server_node.specs.Laws.{fails_later, stays_on, stays_so}
 use Rattle.server_node.proofs.server.ServerNode.settle.Goals as goal
 
 pub loop-init : goal.loop-init
 loop-init g c = record {
   ready = c.requires.ready;
-  works = (λ part past so. so);
+  works = (λ part past came lapses so. so);
+  inbox = refl;
   stays = stays_so g.S.Store.tells g.S.Store.view c.args.self.now;
 }
 
 pub loop-preserved : goal.loop-preserved
 loop-preserved g c = record {
   ready = c.in-Ok.ensures.ready;
-  works = (λ part past so. c.in-Ok.ensures.works part past (c.loop.invariant.works part past so));
+  works = (λ part past came lapses so.
+      c.in-Ok.ensures.works part past came lapses (c.loop.invariant.works part past came lapses so));
+  inbox = c.settle_once.ensures.inbox ∙ c.loop.invariant.inbox;
   stays = stays_on g.S.Store.tells g.S.Store.view c.args.self.now c.loop.self c.settle_once.new.self
       c.loop.invariant.stays c.settle_once.ensures.stays;
 }

@@ -1,4 +1,4 @@
-use Rattle.std.proofs.Common.{List, []}
+use Rattle.std.proofs.Common.{List}
 use Rattle.run_rules.specs.declared.step.Step.{Step}
 use Rattle.server_node.proofs.Staying.{served_by}
 use Rattle.server_node.proofs.Turns.{pushed, ready_then, settled_then}
@@ -15,13 +15,13 @@ returns-clause-ready g c =
     (c.settle-made.ensures.sound c.requires.ready.sound) c.settle-made.ensures.tried
 
 pub returns-clause-works : goal.returns-clause-works
-returns-clause-works g c = λ part past so.
+returns-clause-works g c = λ part past came lapses so.
     let now : ServerNode g.row.S.Denot =
     record c.args.self.now { exporter = c.settle-made.new.self; keeper = c.settle-made.new.keeper } in
     pushed c.settle-made.result c.push_made.result c.args.steps.now.steps c.push_made.new.steps.steps
-    (λ (l : List Step). StandsSo g.S.Store.tells g.S.Store.view part now past l [] 0) c.push_made.ensures.made
+    (λ (l : List Step). StandsSo g.S.Store.tells g.S.Store.view part now past l came lapses) c.push_made.ensures.made
     c.push_made.ensures.ok
-    (settled_then g.S.Store.tells g.S.Store.view part c.args.self.now past c.args.steps.now.steps so
+    (settled_then g.S.Store.tells g.S.Store.view part c.args.self.now past c.args.steps.now.steps came lapses so
     c.settle-made.new.self c.settle-made.new.keeper c.settle-made.result
     (c.settle-made.ensures.sends c.requires.ready.sound)
     c.settle-made.ensures.same c.settle-made.ensures.cause c.settle-made.ensures.meets c.settle-made.ensures.follows)

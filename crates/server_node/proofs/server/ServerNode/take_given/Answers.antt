@@ -1,4 +1,4 @@
-use Rattle.std.proofs.Common.{Option, subst}
+use Rattle.std.proofs.Common.{[], Option, subst}
 use Rattle.std.specs.Prelude.{IfSome}
 use Rattle.hub_board.specs.declared.given.Given.{Given}
 use Rattle.hub_laws.specs.Keeping.{lapse_in, message_in}
@@ -12,7 +12,7 @@ returns-in_default-clause-stays g c = stays_so g.S.Store.tells g.S.Store.view c.
 pub returns-in-Ok-clause-works : goal.returns-in-Ok-clause-works
 returns-in-Ok-clause-works g c = λ part past so given.
     let tells = g.S.Store.tells in let view = g.S.Store.view in
-    c.settle.ensures.works part past (c.in-Ok.ensures.works part past
+    c.settle.ensures.works part past [] 0 (c.in-Ok.ensures.works part past
     (subst (λ (x : Option Given). StandsSo tells view part c.args.self.now past c.args.steps.now.steps (message_in x)
     (lapse_in x)) c.in-Some.is so)
     (subst (λ (x : Option Given). IfSome x (WasGiven past)) c.in-Some.is given))

@@ -1,0 +1,128 @@
+use Rattle.std.proofs.Common.{◌≡◌, ap}
+use Rattle.std.proofs.lemmas.Result.{on_ok_weaker}
+use Rattle.base_types.specs.declared.ids.Node.TheVariants.{Server}
+use Rattle.run_rules.specs.declared.step.Cause.TheVariants.{Message as Came}
+use Rattle.run_rules.specs.declared.step.Step.{Step}
+use Rattle.server_decides.proofs.StepsMade.{if_made, step_made}
+use Rattle.store_acts.specs.Acts.{state_after}
+use Rattle.server_decides.proofs.Gathered.{served_after, served_then}
+use Rattle.server_decides.specs.Gathering.{AreGives, IsStoredOrSame}
+use Rattle.server_decides.specs.Serving.{IsServed}
+use Rattle.server_tables.specs.Sound.{AreSound}
+use Rattle.server_exporter.specs.Machines.{Follows, IsSame, Meets, Says}
+use Rattle.server_exporter.specs.declared.exporter.Exporter.{Exporter}
+use Rattle.server_exporter.proofs.Tooks.{take_follows, take_meets}
+use Rattle.server_exporter.proofs.Spoken.{says_step}
+use Rattle.server_exporter.proofs.Stepped.{on_ok_all, same_machine, tried_if}
+use Rattle.server_exporter.proofs.exporter.Exporter.gather.Goals as goal
+
+pub returns-clause-meets : goal.returns-clause-meets
+returns-clause-meets g c tells limited =
+    let start = (g.S.Store.view c.args.keeper.now.store).state in
+    let st = state_after start c.args.waiting.now in
+    let next = state_after (g.S.Store.view c.take_or_gather-made.new.keeper.store).state
+    c.take_or_gather-made.new.waiting in
+    step_made c.take_or_gather-made.result c.into_step-step.result c.step_if_stored.result
+    c.step_if_stored.ensures.step
+    (Meets st c.args.self.now)
+    (take_meets c.take_or_gather-made.result c.args.self.now c.args.message c.take_or_gather-made.new.tables
+    c.new-draft.result
+    c.take_or_gather-made.new.draft st next c.into_step-step.result c.new-draft.ensures c.into_step-step.ensures
+    c.requires.given
+    c.requires.rested (served_after c.args.self.now.tables start c.args.waiting.now limited c.requires.gives
+    c.requires.served)
+    (c.take_or_gather-made.ensures.taken tells limited)
+    (served_then g.S.Store.tells tells c.take_or_gather-made.result c.take_or_gather-made.new.tables start
+    (g.S.Store.view c.take_or_gather-made.new.keeper.store).state c.take_or_gather-made.new.waiting limited
+    c.take_or_gather-made.ensures.stays c.take_or_gather-made.ensures.gives
+    c.take_or_gather-made.ensures.served))
+
+pub returns-clause-follows : goal.returns-clause-follows
+returns-clause-follows g c tells limited =
+    let start = (g.S.Store.view c.args.keeper.now.store).state in
+    let st = state_after start c.args.waiting.now in
+    let next = state_after (g.S.Store.view c.take_or_gather-made.new.keeper.store).state
+    c.take_or_gather-made.new.waiting in
+    let z : Exporter = record { tables = c.take_or_gather-made.new.tables; rested = c.step_if_stored.new.rested } in
+    step_made c.take_or_gather-made.result c.into_step-step.result c.step_if_stored.result
+    c.step_if_stored.ensures.step
+    (λ (s : Step). Follows st c.args.self.now s next z)
+    (take_follows c.take_or_gather-made.result c.args.self.now c.args.message c.take_or_gather-made.new.tables
+    c.step_if_stored.new.rested c.new-draft.result c.take_or_gather-made.new.draft st next c.into_step-step.result
+    c.new-draft.ensures
+    c.into_step-step.ensures c.requires.given c.requires.rested
+    (served_after c.args.self.now.tables start c.args.waiting.now limited c.requires.gives c.requires.served)
+    (c.take_or_gather-made.ensures.taken tells limited)
+    (served_then g.S.Store.tells tells c.take_or_gather-made.result c.take_or_gather-made.new.tables start
+    (g.S.Store.view c.take_or_gather-made.new.keeper.store).state c.take_or_gather-made.new.waiting limited
+    c.take_or_gather-made.ensures.stays c.take_or_gather-made.ensures.gives
+    c.take_or_gather-made.ensures.served) c.step_if_stored.ensures.rested)
+
+pub returns-clause-gives : goal.returns-clause-gives
+returns-clause-gives g c =
+    if_made c.take_or_gather-made.result c.into_step-step.result c.step_if_stored.result c.step_if_stored.ensures.step
+    (AreGives (g.S.Store.view c.take_or_gather-made.new.keeper.store).state c.take_or_gather-made.new.waiting)
+    c.take_or_gather-made.ensures.gives
+
+pub returns-clause-stays : goal.returns-clause-stays
+returns-clause-stays g c =
+    if_made c.take_or_gather-made.result c.into_step-step.result c.step_if_stored.result c.step_if_stored.ensures.step
+    (IsStoredOrSame g.S.Store.tells (g.S.Store.view c.args.keeper.now.store).state
+    (g.S.Store.view c.take_or_gather-made.new.keeper.store).state c.take_or_gather-made.new.waiting)
+    c.take_or_gather-made.ensures.stays
+
+pub returns-clause-cause : goal.returns-clause-cause
+returns-clause-cause g c =
+    step_made c.take_or_gather-made.result c.into_step-step.result c.step_if_stored.result
+    c.step_if_stored.ensures.step
+    (λ (s : Step). s.cause ≡ Came c.args.message)
+    (on_ok_all c.take_or_gather-made.result (ap (λ (s : Step). s.cause) c.into_step-step.ensures))
+
+pub returns-clause-node : goal.returns-clause-node
+returns-clause-node g c =
+    step_made c.take_or_gather-made.result c.into_step-step.result c.step_if_stored.result
+    c.step_if_stored.ensures.step
+    (λ (s : Step). s.node ≡ Server c.args.self.now.tables.server)
+    (on_ok_all c.take_or_gather-made.result (ap (λ (s : Step). s.node) c.into_step-step.ensures))
+
+pub returns-clause-served : goal.returns-clause-served
+returns-clause-served g c =
+    if_made c.take_or_gather-made.result c.into_step-step.result c.step_if_stored.result c.step_if_stored.ensures.step
+    (IsServed c.take_or_gather-made.new.tables
+    (g.S.Store.view c.take_or_gather-made.new.keeper.store).state) c.take_or_gather-made.ensures.served
+
+pub returns-clause-same : goal.returns-clause-same
+returns-clause-same g c =
+    let x = c.args.self.now in
+    let y : Exporter = record { tables = c.take_or_gather-made.new.tables; rested = c.step_if_stored.new.rested } in
+    if_made c.take_or_gather-made.result c.into_step-step.result c.step_if_stored.result c.step_if_stored.ensures.step
+    (IsSame x y)
+    (on_ok_weaker c.take_or_gather-made.result (λ s. same_machine x y (g.S.Store.view c.args.keeper.now.store)
+    (g.S.Store.view c.take_or_gather-made.new.keeper.store) c.requires.served c.take_or_gather-made.ensures.tried.same
+    s)
+    c.take_or_gather-made.ensures.served)
+
+pub returns-clause-tried : goal.returns-clause-tried
+returns-clause-tried g c =
+    tried_if c.take_or_gather-made.result c.into_step-step.result c.step_if_stored.result
+    (g.S.Store.view c.args.keeper.now.store)
+    (g.S.Store.view c.take_or_gather-made.new.keeper.store) c.take_or_gather-made.new.keeper.left
+    c.step_if_stored.ensures.step
+    c.take_or_gather-made.ensures.tried
+
+pub returns-clause-sends : goal.returns-clause-sends
+returns-clause-sends g c sound =
+    let x = c.args.self.now.tables in
+    step_made c.take_or_gather-made.result c.into_step-step.result c.step_if_stored.result
+    c.step_if_stored.ensures.step
+    (Says x)
+    (on_ok_weaker c.take_or_gather-made.result (λ so. says_step x c.take_or_gather-made.new.tables c.new-draft.result
+    c.take_or_gather-made.new.draft
+    (Came c.args.message) c.into_step-step.result c.new-draft.ensures c.into_step-step.ensures so)
+    (c.take_or_gather-made.ensures.says sound))
+
+pub returns-clause-sound : goal.returns-clause-sound
+returns-clause-sound g c sound =
+    if_made c.take_or_gather-made.result c.into_step-step.result c.step_if_stored.result c.step_if_stored.ensures.step
+    (AreSound c.take_or_gather-made.new.tables)
+    (on_ok_weaker c.take_or_gather-made.result (λ so. so.sound) (c.take_or_gather-made.ensures.says sound))
