@@ -28,7 +28,7 @@ fn is_settled(content: &Content) -> bool
             unsaved,
             length,
             ..
-        } => unsaved.as_slice().is_empty() && length.is_none(),
+        } => unsaved.is_empty() && length.is_none(),
     }
 }
 

@@ -62,7 +62,8 @@ impl ToLine for UnsavedBytes {
     ghost json = { list unsaved_json };
 
     fn put(&self, line: &mut Line) -> Result<(), NoMemory> {
-        put_list(line, self.as_slice())
+        let bytes = self.to_items()?;
+        put_list(line, bytes.as_slice())
     }
 }
 

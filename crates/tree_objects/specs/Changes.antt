@@ -26,6 +26,7 @@ use Rattle.tree_objects.specs.declared.content.Content.TheVariants.{Dir, File}
 use Rattle.tree_objects.specs.declared.content.Object.{Object}
 use Rattle.tree_objects.specs.declared.content.Anode.{Anode}
 use Rattle.tree_objects.specs.Files.{present_length, present_bytes, resized}
+pub use Rattle.tree_objects.specs.Positions.{written}
 
 -- an object with another content
 abbrev pub content_changed : (Content → Content) → Object → Object
@@ -38,11 +39,6 @@ anode_changed change anode = record anode { object = option_map (content_changed
 -- an anode whose object is gone
 abbrev pub anode_freed : Anode → Anode
 anode_freed anode = record anode { object = None }
-
--- what a host writes from a position on
-abbrev pub written : HostId → ℕ → List ℕ → List Unsaved
-written host at [] = []
-written host at (value ∷ values) = record { at = at; value = value; writer = host } ∷ written host (at + 1) values
 
 -- the unsaved bytes after a write: those below it, the written ones, and those above it
 abbrev pub unsaved_after : List Unsaved → HostId → ℕ → List ℕ → List Unsaved

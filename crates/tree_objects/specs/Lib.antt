@@ -3,6 +3,7 @@ pub mod Changes
 pub mod Cuts
 pub mod Spans
 pub mod Positions
+pub mod Stretches
 pub mod Stores
 pub mod Losses
 pub mod Entries

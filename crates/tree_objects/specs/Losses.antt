@@ -1,5 +1,5 @@
 -- What is lost where a host goes down before it stored.
-use Rattle.std.specs.Prelude.{ℕ, ◌+◌, ◌==◌, if◌then◌else◌, List, [], ◌∷◌, filter}
+use Rattle.std.specs.Prelude.{ℕ, ◌+◌, ◌==◌, nat_lt, if◌then◌else◌, List, [], ◌∷◌, filter}
 use Rattle.base_types.specs.declared.ids.HostId.{HostId}
 use Rattle.base_types.specs.declared.span.Span.{Span}
 use Rattle.tree_objects.specs.declared.content.Unsaved.{Unsaved}
@@ -18,6 +18,10 @@ spans_on from to (byte ∷ bytes) =
 abbrev pub spans_of : List Unsaved → List Span
 spans_of [] = []
 spans_of (byte ∷ bytes) = spans_on byte.at (byte.at + 1) bytes
+
+-- the spans of further bytes behind a span, where that has a byte
+abbrev pub spans_from : ℕ → ℕ → List Unsaved → List Span
+spans_from from to bytes = if nat_lt from to then spans_on from to bytes else spans_of bytes
 
 -- the unsaved bytes of a host
 abbrev pub own_bytes : HostId → List Unsaved → List Unsaved

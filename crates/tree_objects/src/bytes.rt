@@ -1,15 +1,10 @@
-ghost use Rattle.std.specs.Prelude.{◌≡◌, ◌<◌, ◌-◌, ◌++◌, ℕ, [], List, length, take, drop, replicate, slice_index_or};
+ghost use Rattle.std.specs.Prelude.{◌≡◌, ◌<◌, ◌≤◌, ◌+◌, ◌-◌, ◌++◌, ℕ, [], List, length, take, drop, replicate};
 ghost use Rattle.std.specs.Prelude.{IfOk, OnErr, OnOk};
-ghost use Rattle.tree_objects.specs.Files.{
-  present_length,
-  present_bytes,
-  bytes_over,
-  content_bytes,
-  resized,
-  bytes_with,
-};
+ghost use Rattle.tree_objects.specs.Files.{present_length, present_bytes, bytes_over, content_bytes, resized};
+ghost use Rattle.tree_objects.specs.Stretches.{all_bytes, laid, replaced};
 
-use crate::content::{Content, Object, Unsaved, UnsavedLength};
+use crate::content::{Content, Object, UnsavedLength};
+use crate::stretch::Stretch;
 use crate::unsaved::UnsavedBytes;
 use base_types::{Items, NoMemory};
 use std::alloc::Global;
@@ -90,43 +85,71 @@ fn read_part(
 /// So many bytes from the position `from` on: the unsaved ones where there are any, else the kept ones, else zeros.
 pub(crate) fn bytes_over(
     kept: &Items<u8>,
-    unsaved: &[Unsaved],
+    stretches: &[Stretch],
     from: usize,
     count: usize,
 ) -> Result<Items<u8>, NoMemory>
-    ensures { IfOk result (λ bytes. bytes ≡ bytes_over kept.now unsaved.now from count) }
+    ensures { IfOk result (λ bytes. bytes ≡ bytes_over kept.now (all_bytes stretches.now) from count) }
 {
     let mut bytes = kept_bytes(kept, from, count)?;
-    put_each(&mut bytes, unsaved, from);
+    put_each(&mut bytes, stretches, from);
     Ok(bytes)
 }
 
 /// Puts unsaved bytes over those that start at the position `from`, where those are kept ones.
-pub(crate) fn put_each(bytes: &mut Items<u8>, unsaved: &[Unsaved], from: usize)
+pub(crate) fn put_each(bytes: &mut Items<u8>, stretches: &[Stretch], from: usize)
     ensures { (kept : List ℕ) (count : ℕ) → bytes.old ≡ bytes_over kept [] from count
-        → bytes.new ≡ bytes_over kept unsaved.now from count }
+        → bytes.new ≡ bytes_over kept (all_bytes stretches.now) from count }
 {
-    for index in (0..unsaved.len()).rev() {
-        let byte = byte_in(unsaved, index);
-        put_unsaved(bytes, byte, from);
+    let alloc = bytes.alloc();
+    let mut list = mem::replace(bytes, Items::new(alloc)).into_vec();
+    for index in (0..stretches.len()).rev() {
+        put_stretch(list.as_mut_slice(), &stretches[index], from);
     }
+    *bytes = Items::from_vec(list);
 }
 
-fn byte_in(unsaved: &[Unsaved], index: usize) -> &Unsaved
-    requires { index < length unsaved.now }
-    ensures { result.now ≡ slice_index_or unsaved.now index result.now }
+// Puts the bytes of a stretch over those that start at the position `from`, where those are there.
+fn put_stretch(bytes: &mut [u8], stretch: &Stretch, from: usize)
+    ensures { bytes.new ≡ laid bytes.old (stretch.now.from - from) (drop (from - stretch.now.from) stretch.now.bytes) }
 {
-    &unsaved[index]
+    let written = stretch.bytes.as_slice();
+    let start = stretch.from as usize;
+    let skipped = from.saturating_sub(start).min(written.len());
+    let at = start.saturating_sub(from).min(bytes.len());
+    let count = (written.len() - skipped).min(bytes.len() - at);
+    bytes[at..at + count].copy_from_slice(&written[skipped..skipped + count]);
 }
 
-// Puts an unsaved byte over those that start at the position `from`.
-fn put_unsaved(bytes: &mut Items<u8>, byte: &Unsaved, from: usize)
-    ensures { bytes.new ≡ bytes_with bytes.old byte.now from }
+/// Puts others in the place of bytes from a place on; they may go on behind the end. After `NoMemory` nothing has
+/// changed.
+pub(crate) fn replace(bytes: &mut Items<u8>, at: usize, part: &[u8]) -> Result<(), NoMemory>
+    requires { at ≤ length bytes.old }
+    ensures ok { OnOk result (bytes.new ≡ replaced bytes.old at part.now) }
+    ensures err { OnErr result (bytes.new ≡ bytes.old) }
 {
-    let at = byte.at as usize;
-    if from <= at {
-        bytes.put(at - from, byte.value);
-    }
+    let inside = part.len().min(bytes.len() - at);
+    bytes.extend(&part[inside..])?;
+    put_at(bytes, at, &part[..inside]);
+    Ok(())
+}
+
+// Puts others in the place of bytes from a place on.
+fn put_at(bytes: &mut Items<u8>, at: usize, part: &[u8])
+    requires { at + length part.now ≤ length bytes.old }
+    ensures { bytes.new ≡ replaced bytes.old at part.now }
+{
+    let alloc = bytes.alloc();
+    let mut list = mem::replace(bytes, Items::new(alloc)).into_vec();
+    put_part(list.as_mut_slice(), at, part);
+    *bytes = Items::from_vec(list);
+}
+
+fn put_part(bytes: &mut [u8], at: usize, part: &[u8])
+    requires { at + length part.now ≤ length bytes.old }
+    ensures { bytes.new ≡ replaced bytes.old at part.now }
+{
+    bytes[at..at + part.len()].copy_from_slice(part);
 }
 
 // So many kept bytes from the position `from` on, with zeros where there are fewer.

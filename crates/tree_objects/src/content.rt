@@ -99,12 +99,6 @@ impl Drop for Anode {
     }
 }
 
-impl Plain for Unsaved {
-    fn copy(&self) -> Result<Unsaved, NoMemory> {
-        Ok(*self)
-    }
-}
-
 impl Plain for Content {
     fn copy(&self) -> Result<Content, NoMemory> {
         Ok(match self {

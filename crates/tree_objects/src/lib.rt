@@ -7,7 +7,10 @@ mod entries;
 mod laws;
 mod losses;
 mod object;
+mod parts;
+mod splits;
 mod storing;
+mod stretch;
 mod unsaved;
 mod writing;
 

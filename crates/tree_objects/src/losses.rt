@@ -1,9 +1,13 @@
-ghost use Rattle.std.specs.Prelude.{◌≡◌, ◌==◌, nat_eq, IfOk};
+ghost use Rattle.std.specs.Prelude.{◌≡◌, ◌<◌, ◌≤◌, ◌++◌, ◌==◌, List, true, nat_eq, IfOk};
+ghost use Rattle.std.specs.List.{list_all};
+ghost use Rattle.tree_objects.specs.declared.content.Unsaved.{Unsaved};
 ghost use Rattle.tree_objects.specs.Spans.{span_between};
 ghost use Rattle.tree_objects.specs.Stores.{own_length_of};
-ghost use Rattle.tree_objects.specs.Losses.{spans_on, spans_of, own_bytes, own_spans};
+ghost use Rattle.tree_objects.specs.Losses.{spans_of, spans_from, own_bytes, own_spans};
+ghost use Rattle.tree_objects.specs.Stretches.{bytes_of, all_bytes, is_stretch};
 
-use crate::content::{Content, Object, Unsaved};
+use crate::content::{Content, Object};
+use crate::stretch::Stretch;
 use base_types::{FILE_BYTES_MAX, HostId, Items, NoMemory, Span};
 use std::alloc::Global;
 
@@ -19,10 +23,7 @@ impl Object {
                 kept,
                 unsaved,
                 length: _,
-            } => {
-                let own = own_bytes(kept.alloc(), unsaved.as_slice(), host)?;
-                spans_of(kept.alloc(), own.as_slice())
-            }
+            } => own_spans(kept.alloc(), unsaved.stretches(), host),
         }
     }
 
@@ -34,38 +35,52 @@ impl Object {
     }
 }
 
-// The unsaved bytes of a host.
-fn own_bytes(alloc: Global, unsaved: &[Unsaved], host: HostId) -> Result<Items<Unsaved>, NoMemory>
-    ensures { IfOk result (λ own. own ≡ own_bytes host unsaved.now) }
-{
-    let own = unsaved
-        .iter()
-        .copied()
-        .filter(|byte| byte.writer == host)
-        .collect(alloc)?;
-    Ok(Items::from_vec(own))
-}
-
-// The spans in which bytes at rising positions stand together.
-fn spans_of(alloc: Global, bytes: &[Unsaved]) -> Result<Items<Span>, NoMemory>
-    ensures { IfOk result (λ spans. spans ≡ spans_of bytes.now) }
+// The spans in which the unsaved bytes of a host stand together.
+fn own_spans(alloc: Global, stretches: &[Stretch], host: HostId) -> Result<Items<Span>, NoMemory>
+    requires { list_all is_stretch stretches.now ≡ true }
+    ensures { IfOk result (λ spans. spans ≡ spans_of (own_bytes host (all_bytes stretches.now))) }
 {
     let mut spans = Items::new(alloc);
-    let Some((first, rest)) = bytes.split_first() else {
-        return Ok(spans);
-    };
-    let mut from = first.at as u64;
-    let mut to = from + 1;
-    for byte in rest {
-        let at = byte.at as u64;
-        if at != to {
-            spans.push(span_between(from, to))?;
-            from = at;
+    let mut last = Running { from: 0, to: 0 };
+    for stretch in stretches {
+        if stretch.writer == host {
+            last = joined(&mut spans, last, stretch)?;
         }
-        to = at + 1;
     }
-    spans.push(span_between(from, to))?;
+    if last.from < last.to {
+        spans.push(span_between(last.from, last.to))?;
+    }
     Ok(spans)
+}
+
+/// The last span so far, which further bytes may make longer; of no bytes it is empty.
+#[derive(Clone, Copy)]
+struct Running {
+    from: u64,
+    to: u64,
+}
+
+// The last span after one more stretch; one that is complete is added to the others.
+#[tactic(auto, using(crate::proofs::Pieces::some_of, crate::proofs::Pieces::within_of))]
+fn joined(spans: &mut Items<Span>, last: Running, stretch: &Stretch) -> Result<Running, NoMemory>
+    requires ordered { last.from ≤ last.to }
+    requires stretch { is_stretch stretch.now ≡ true }
+    ensures spans { (rest : List Unsaved) → IfOk result (λ next. spans.new ++ spans_from next.from next.to rest
+        ≡ spans.old ++ spans_from last.from last.to (bytes_of stretch.now ++ rest)) }
+    ensures more { IfOk result (λ next. next.from < next.to) }
+{
+    let from = u64::from(stretch.from);
+    let to = from + stretch.bytes.len() as u64;
+    if from == last.to {
+        return Ok(Running {
+            from: last.from,
+            to,
+        });
+    }
+    if last.from < last.to {
+        spans.push(span_between(last.from, last.to))?;
+    }
+    Ok(Running { from, to })
 }
 
 /// The bytes from `from` on and before `to`, none of them behind the last byte that a file can have.

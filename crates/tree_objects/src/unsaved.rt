@@ -1,69 +1,46 @@
-ghost use Rattle.std.specs.Prelude.{
-  ◌≡◌,
-  ◌+◌,
-  ◌-◌,
-  ◌≤◌,
-  ◌<◌,
-  ◌++◌,
-  ◌==◌,
-  nat_eq,
-  nat_lt,
-  nat_le,
-  min,
-  max,
-  not,
-  true,
-  [],
-  take,
-  drop,
-  slice_get,
-  length,
-  filter,
-  is_some,
-  IfOk,
-  IfSome,
-  OnOk,
-  OnErr,
-};
-ghost use Rattle.std.specs.List.{splice, position};
-ghost use Rattle.std.specs.Option.{option_copied};
-ghost use Rattle.base_types.specs.Spans.{has_byte, in_spans};
+ghost use Rattle.std.specs.Prelude.{◌≡◌, ◌+◌, ◌-◌, ◌≤◌, ◌++◌, ◌==◌, ◌&&◌, not, true, [], slice_get, length, filter};
+ghost use Rattle.std.specs.Prelude.{IfOk, OnOk, OnErr};
+ghost use Rattle.std.specs.List.{list_all};
 ghost use Rattle.base_types.specs.declared.limits.TheConstants.{FILE_BYTES_MAX};
-ghost use Rattle.tree_objects.specs.Changes.{written, unsaved_after};
-ghost use Rattle.tree_objects.specs.Cuts.{IsCut, first_of, end_of};
+ghost use Rattle.tree_objects.specs.Changes.{unsaved_after};
 ghost use Rattle.tree_objects.specs.Files.{bytes_over};
-ghost use Rattle.tree_objects.specs.Positions.{positions_rise};
+ghost use Rattle.tree_objects.specs.Positions.{written};
 ghost use Rattle.tree_objects.specs.Stores.{is_stored};
+ghost use Rattle.tree_objects.specs.Stretches.{all_bytes, is_stretch, are_stretches, reaches};
 
 use crate::bytes::{bytes_over, lengthen, put_each};
 use crate::content::Unsaved;
+use crate::parts::{cut_at, cut_of, put_between};
+use crate::splits::split_stored;
+use crate::stretch::{
+    Stretch, first_byte, push_above, push_below, push_written, reaches, write_in,
+};
 use base_types::{HostId, Items, NoMemory, Plain, Span};
 use std::alloc::Global;
 use std::marker::Model;
-use std::mem;
 
 /// The bytes of a file that aren't stored yet, in the order of their positions, each of which has at most one.
 /// Contracts see it as the list of these bytes.
 pub struct UnsavedBytes {
-    bytes: Items<Unsaved>,
+    stretches: Items<Stretch>,
 }
 
 impl Drop for UnsavedBytes {
     fn drop(self) {
-        let UnsavedBytes { bytes: _ } = self;
+        let UnsavedBytes { stretches: _ } = self;
     }
 }
 
 impl Model for UnsavedBytes {
     ghost use Rattle.std.specs.Prelude.{◌≡◌, true, List};
     ghost use Rattle.tree_objects.specs.declared.content.Unsaved.{Unsaved};
-    ghost use Rattle.tree_objects.specs.Positions.{positions_rise};
+    ghost use Rattle.tree_objects.specs.Stretches.{all_bytes, are_stretches};
 
     ghost Value = { List Unsaved };
 
-    ghost view = { λ a. a.bytes };
+    ghost view = { λ a. all_bytes a.stretches };
 
-    ghost invariant = { λ a. positions_rise a.bytes ≡ true };
+    ghost invariant = { λ a. are_stretches a.stretches ≡ true };
 }
 
 impl UnsavedBytes {
@@ -72,22 +49,41 @@ impl UnsavedBytes {
         ensures { result ≡ [] }
     {
         UnsavedBytes {
-            bytes: Items::new(alloc),
+            stretches: Items::new(alloc),
         }
     }
 
-    /// The bytes, in the order of their positions. It takes no memory.
-    pub fn as_slice(&self) -> &[Unsaved]
-        ensures { result.now ≡ self.now }
+    #[tactic(auto, using(crate::proofs::Pieces::empty_alike, crate::proofs::Observed::and_left))]
+    pub fn is_empty(&self) -> bool
+        ensures { result ≡ (length self.now == 0) }
     {
-        self.bytes.as_slice()
+        self.stretches.as_slice().is_empty()
     }
 
     /// The first of the bytes, where there is one.
-    pub fn first(&self) -> Option<&Unsaved>
-        ensures { option_copied result ≡ slice_get self.now 0 }
+    #[tactic(auto, using(crate::proofs::Pieces::first_some, crate::proofs::Pieces::first_none, crate::proofs::Observed::and_left))]
+    pub fn first(&self) -> Option<Unsaved>
+        ensures { result ≡ slice_get self.now 0 }
     {
-        self.bytes.at(0)
+        match self.stretches.as_slice().first() {
+            Some(stretch) => first_byte(stretch),
+            None => None,
+        }
+    }
+
+    /// The bytes, in the order of their positions.
+    pub fn to_items(&self) -> Result<Items<Unsaved>, NoMemory>
+        ensures { IfOk result (λ bytes. bytes ≡ self.now) }
+    {
+        bytes_in(self.stretches.alloc(), self.stretches())
+    }
+
+    /// The stretches in which the bytes stand.
+    pub(crate) fn stretches(&self) -> &[Stretch]
+        ensures value { all_bytes result.now ≡ self.now }
+        ensures each { list_all is_stretch result.now ≡ true }
+    {
+        self.stretches.as_slice()
     }
 
     /// The bytes of a file from the position `from` on and before `end`: the unsaved ones where there are any, else the
@@ -100,7 +96,9 @@ impl UnsavedBytes {
     ) -> Result<Items<u8>, NoMemory>
         ensures { IfOk result (λ bytes. bytes ≡ bytes_over kept.now self.now from (end - from)) }
     {
-        let part = part_of(self.bytes.as_slice(), from, end);
+        let stretches = self.stretches.as_slice();
+        let cut = cut_at(stretches, from, end);
+        let part = &stretches[cut.from..cut.to];
         bytes_over(kept, part, from, end.saturating_sub(from))
     }
 
@@ -110,13 +108,7 @@ impl UnsavedBytes {
         ensures ok { OnOk result (self.new ≡ unsaved_after self.old host from bytes.now) }
         ensures err { OnErr result (self.new ≡ self.old) }
     {
-        let cut = cut_at(
-            self.bytes.as_slice(),
-            from as usize,
-            from as usize + bytes.len(),
-        );
-        let written = written(self.bytes.alloc(), host, from, bytes)?;
-        put_between(&mut self.bytes, cut, written)?;
+        put_written(&mut self.stretches, host, from, bytes)?;
         Ok(())
     }
 
@@ -124,7 +116,7 @@ impl UnsavedBytes {
     pub(crate) fn forget(&mut self, host: HostId)
         ensures { self.new ≡ filter (λ byte. not (byte.writer.0 == host.0)) self.old }
     {
-        drop_own(&mut self.bytes, host);
+        drop_own(&mut self.stretches, host);
     }
 
     /// Stores what a host has in these spans below the position `end`: its bytes go, over the kept ones, of which the
@@ -142,13 +134,13 @@ impl UnsavedBytes {
             (self.new ≡ filter (λ byte. not (is_stored host spans.now end byte)) self.old) }
         ensures err { OnErr result ((self.new ≡ self.old) × (kept.new ≡ kept.old)) }
     {
-        let bytes = self.bytes.as_slice();
-        let cut = cut_of(bytes, spans, end);
-        let part = &bytes[cut.from..cut.to];
-        let (stored, left) = split_stored(self.bytes.alloc(), part, host, spans, end)?;
+        let stretches = self.stretches.as_slice();
+        let cut = cut_of(stretches, spans, end);
+        let part = &stretches[cut.from..cut.to];
+        let (stored, left) = split_stored(self.stretches.alloc(), part, host, spans, end)?;
         let before = kept.len();
         lengthen(kept, end)?;
-        match put_between(&mut self.bytes, cut, left) {
+        match put_between(&mut self.stretches, cut, left) {
             Ok(()) => {
                 kept.truncate(end);
                 put_each(kept, stored.as_slice(), 0);
@@ -165,103 +157,34 @@ impl UnsavedBytes {
 impl Plain for UnsavedBytes {
     fn copy(&self) -> Result<UnsavedBytes, NoMemory> {
         Ok(UnsavedBytes {
-            bytes: self.bytes.to_items()?,
+            stretches: self.stretches.copy()?,
         })
     }
 }
 
-/// A part of a list: the places from `from` on and before `to`.
-#[derive(Clone, Copy)]
-struct Cut {
-    from: usize,
-    to: usize,
-}
-
-// How many of the unsaved bytes stand below a position.
-fn count_below(unsaved: &[Unsaved], end: usize) -> usize
-    requires { positions_rise unsaved.now ≡ true }
-    ensures within { result ≤ length unsaved.now }
-    ensures below { take result unsaved.now ≡ filter (λ byte. nat_lt byte.at end) unsaved.now }
-    ensures above { drop result unsaved.now ≡ filter (λ byte. nat_le end byte.at) unsaved.now }
+// The bytes of stretches, each with its position.
+fn bytes_in(alloc: Global, stretches: &[Stretch]) -> Result<Items<Unsaved>, NoMemory>
+    requires { list_all is_stretch stretches.now ≡ true }
+    ensures { IfOk result (λ bytes. bytes ≡ all_bytes stretches.now) }
 {
-    unsaved.partition_point(|byte| (byte.at as usize) < end)
-}
-
-// Where the unsaved bytes of a span stand.
-fn cut_at(unsaved: &[Unsaved], from: usize, to: usize) -> Cut
-    requires rising { positions_rise unsaved.now ≡ true }
-    requires ordered { from ≤ to }
-    ensures { IsCut unsaved.now from to result.from result.to }
-{
-    let first = count_below(unsaved, from);
-    let rest = &unsaved[first..];
-    Cut {
-        from: first,
-        to: first + count_below(rest, to),
+    let mut bytes = Items::new(alloc);
+    for stretch in stretches {
+        let values = stretch.bytes.as_slice();
+        push_bytes(&mut bytes, stretch.writer, stretch.from, values)?;
     }
+    Ok(bytes)
 }
 
-// Where the unsaved bytes stand that lie between the first position and the last one of spans, below `end`.
-fn cut_of(unsaved: &[Unsaved], spans: &[Span], end: usize) -> Cut
-    requires { positions_rise unsaved.now ≡ true }
-    ensures { IsCut unsaved.now (first_of spans.now end)
-        (max (min (end_of spans.now) end) (first_of spans.now end)) result.from result.to }
-{
-    let from = first_of(spans, end);
-    let to = end_of(spans).min(end).max(from);
-    cut_at(unsaved, from, to)
-}
-
-// The first position that spans begin at, and `end` where none begins before it.
-fn first_of(spans: &[Span], end: usize) -> usize
-    ensures { result ≡ first_of spans.now end }
-{
-    spans
-        .iter()
-        .fold(end, |from, span| from.min(span.from as usize))
-}
-
-// The last position that spans end before, and 0 of none.
-fn end_of(spans: &[Span]) -> usize
-    ensures { result ≡ end_of spans.now }
-{
-    spans.iter().fold(0, |to, span| to.max(span.to as usize))
-}
-
-// The unsaved bytes of a span.
-fn part_of(unsaved: &[Unsaved], from: usize, to: usize) -> &[Unsaved]
-    requires { positions_rise unsaved.now ≡ true }
-    ensures { result.now ≡ filter (λ byte. nat_lt byte.at to) (filter (λ byte. nat_le from byte.at) unsaved.now) }
-{
-    let rest = &unsaved[count_below(unsaved, from)..];
-    &rest[..count_below(rest, to)]
-}
-
-// Puts these bytes in the place of a part of the list.
-fn put_between(
-    unsaved: &mut Items<Unsaved>,
-    cut: Cut,
-    written: Vec<Unsaved>,
+// Adds the bytes that a host writes from a position on, each with its position.
+fn push_bytes(
+    list: &mut Items<Unsaved>,
+    host: HostId,
+    from: u32,
+    bytes: &[u8],
 ) -> Result<(), NoMemory>
-    requires ordered { cut.from ≤ cut.to }
-    requires within { cut.to ≤ length unsaved.old }
-    ensures ok { OnOk result (unsaved.new ≡ splice unsaved.old cut.from cut.to written.items) }
-    ensures err { OnErr result (unsaved.new ≡ unsaved.old) }
-{
-    let alloc = unsaved.alloc();
-    let mut bytes = mem::replace(unsaved, Items::new(alloc)).into_vec();
-    let put = bytes.splice(cut.from..cut.to, written);
-    *unsaved = Items::from_vec(bytes);
-    put?;
-    Ok(())
-}
-
-// The bytes that a host writes, as unsaved ones.
-fn written(alloc: Global, host: HostId, from: u32, bytes: &[u8]) -> Result<Vec<Unsaved>, NoMemory>
     requires { from + length bytes.now ≤ FILE_BYTES_MAX }
-    ensures { IfOk result (λ list. list.items ≡ written host from bytes.now) }
+    ensures { OnOk result (list.new ≡ list.old ++ written host from bytes.now) }
 {
-    let mut list = Vec::with_capacity(alloc, bytes.len())?;
     for (i, value) in bytes.iter().enumerate() {
         list.push(Unsaved {
             at: from + i as u32,
@@ -269,79 +192,91 @@ fn written(alloc: Global, host: HostId, from: u32, bytes: &[u8]) -> Result<Vec<U
             writer: host,
         })?;
     }
+    Ok(())
+}
+
+// Puts the bytes that a host writes from a position on among those of stretches, in the place of those that are written
+// over. A stretch of the host that goes on there becomes longer.
+fn put_written(
+    stretches: &mut Items<Stretch>,
+    host: HostId,
+    from: u32,
+    bytes: &[u8],
+) -> Result<(), NoMemory>
+    requires stand { are_stretches stretches.old ≡ true }
+    requires within { from + length bytes.now ≤ FILE_BYTES_MAX }
+    ensures ok { OnOk result (all_bytes stretches.new ≡ unsaved_after (all_bytes stretches.old) host from bytes.now) }
+    ensures each { OnOk result (list_all is_stretch stretches.new ≡ true) }
+    ensures err { OnErr result (stretches.new ≡ stretches.old) }
+{
+    let list = stretches.as_slice();
+    let to = from as usize + bytes.len();
+    let near = cut_at(list, (from as usize).saturating_sub(1), to);
+    if takes(&list[near.from..near.to], host, from, to) {
+        write_in(stretches.get_mut(near.from), from, bytes)
+    } else {
+        write_over(stretches, host, from, bytes)
+    }
+}
+
+// Whether a part is one stretch that a host may go on with by a write from a position on and before another.
+fn takes(part: &[Stretch], host: HostId, from: u32, to: usize) -> bool
+    ensures { result ≡ ((length part.now == 1) && list_all (reaches host from to) part.now) }
+{
+    part.len() == 1 && each_reaches(part, host, from, to)
+}
+
+fn each_reaches(part: &[Stretch], host: HostId, from: u32, to: usize) -> bool
+    ensures { result ≡ list_all (reaches host from to) part.now }
+{
+    part.iter().all(|stretch| reaches(stretch, host, from, to))
+}
+
+// Puts the bytes that a host writes from a position on among those of stretches, as stretches of their own.
+fn write_over(
+    stretches: &mut Items<Stretch>,
+    host: HostId,
+    from: u32,
+    bytes: &[u8],
+) -> Result<(), NoMemory>
+    requires stand { are_stretches stretches.old ≡ true }
+    requires within { from + length bytes.now ≤ FILE_BYTES_MAX }
+    ensures ok { OnOk result (all_bytes stretches.new ≡ unsaved_after (all_bytes stretches.old) host from bytes.now) }
+    ensures each { OnOk result (list_all is_stretch stretches.new ≡ true) }
+    ensures err { OnErr result (stretches.new ≡ stretches.old) }
+{
+    let alloc = stretches.alloc();
+    let list = stretches.as_slice();
+    let cut = cut_at(list, from as usize, from as usize + bytes.len());
+    let written = written_over(alloc, &list[cut.from..cut.to], host, from, bytes)?;
+    put_between(stretches, cut, written)?;
+    Ok(())
+}
+
+// What a write leaves of stretches: those of their bytes that stand below it, the written ones, and those above it.
+fn written_over(
+    alloc: Global,
+    part: &[Stretch],
+    host: HostId,
+    from: u32,
+    bytes: &[u8],
+) -> Result<Vec<Stretch>, NoMemory>
+    requires within { from + length bytes.now ≤ FILE_BYTES_MAX }
+    requires each { list_all is_stretch part.now ≡ true }
+    ensures value { IfOk result
+        (λ list. all_bytes list.items ≡ unsaved_after (all_bytes part.now) host from bytes.now) }
+    ensures each { IfOk result (λ list. list_all is_stretch list.items ≡ true) }
+{
+    let mut list = Vec::with_capacity(alloc, 3)?;
+    push_below(&mut list, part, from as usize)?;
+    push_written(&mut list, host, from, bytes)?;
+    push_above(&mut list, part, from as usize + bytes.len())?;
     Ok(list)
 }
 
-// Lets the unsaved bytes of a host go.
-fn drop_own(unsaved: &mut Items<Unsaved>, host: HostId)
-    ensures { unsaved.new ≡ filter (λ byte. not (byte.writer.0 == host.0)) unsaved.old }
+// Lets the stretches of a host go.
+fn drop_own(stretches: &mut Items<Stretch>, host: HostId)
+    ensures { stretches.new ≡ filter (λ stretch. not (stretch.writer.0 == host.0)) stretches.old }
 {
-    unsaved.retain(|byte| byte.writer != host);
-}
-
-// The unsaved bytes that become kept, and those that don't. A span is looked for from the one on that had the byte
-// before.
-fn split_stored(
-    alloc: Global,
-    unsaved: &[Unsaved],
-    host: HostId,
-    spans: &[Span],
-    end: usize,
-) -> Result<(Vec<Unsaved>, Vec<Unsaved>), NoMemory>
-    ensures stored { IfOk result (λ both. both.0.items ≡ filter (is_stored host spans.now end) unsaved.now) }
-    ensures left { IfOk result
-        (λ both. both.1.items ≡ filter (λ byte. not (is_stored host spans.now end byte)) unsaved.now) }
-{
-    let mut stored = Vec::new(alloc);
-    let mut left = Vec::new(alloc);
-    let mut near = 0;
-    for byte in unsaved {
-        match span_of(host, spans, end, near, byte) {
-            Some(place) => {
-                near = place;
-                stored.push(*byte)?;
-            }
-            None => left.push(*byte)?,
-        }
-    }
-    Ok((stored, left))
-}
-
-// The span in which a host stores an unsaved byte, looked for from the place `near` on.
-fn span_of(host: HostId, spans: &[Span], end: usize, near: usize, byte: &Unsaved) -> Option<usize>
-    ensures { is_some result ≡ is_stored host spans.now end byte.now }
-{
-    if byte.writer == host && (byte.at as usize) < end {
-        span_at(spans, near, byte.at)
-    } else {
-        None
-    }
-}
-
-// The place of a span that has a position, looked for from the place `near` on and then from the first on.
-fn span_at(spans: &[Span], near: usize, at: u32) -> Option<usize>
-    ensures { is_some result ≡ in_spans spans.now at }
-{
-    let (before, after) = spans.split_at(near.min(spans.len()));
-    match first_with(after, at) {
-        Some(place) => Some(before.len() + place),
-        None => first_with(before, at),
-    }
-}
-
-// The place of the first span that has a position, where one has.
-fn first_with(spans: &[Span], at: u32) -> Option<usize>
-    ensures value { is_some result ≡ in_spans spans.now at }
-    ensures within { IfSome result (λ place. place < length spans.now) }
-{
-    position_with(spans, at)
-}
-
-fn position_with(spans: &[Span], at: u32) -> Option<usize>
-    ensures value { result ≡ position (λ span. has_byte span at) spans.now }
-    ensures within { IfSome result (λ place. place < length spans.now) }
-{
-    spans
-        .iter()
-        .position(|span| span.from <= at && at < span.to)
+    stretches.retain(|stretch| stretch.writer != host);
 }

@@ -1,8 +1,11 @@
-use Rattle.std.proofs.Common.{◌≡◌, ◌==◌, not, true, sym, subst}
-use Rattle.tree_objects.specs.Positions.{positions_rise}
-use Rattle.tree_objects.proofs.Rising.{rise_filter}
+use Rattle.std.proofs.Common.{◌==◌, not, filter, ap, ◌∙◌}
+use Rattle.tree_objects.specs.Stretches.{all_bytes}
+use Rattle.tree_objects.proofs.Owned.{own_gone, forget_stands}
 use Rattle.tree_objects.proofs.unsaved.UnsavedBytes.forget.Goals as goal
 
 pub invariant_of-self : goal.invariant_of-self
-invariant_of-self c =
-    subst (λ bytes. positions_rise bytes ≡ true) (sym c.drop_own.ensures) (rise_filter (λ byte. not (byte.writer.0 == c.args.host.0)) c.self.inside.bytes c.self.invariant)
+invariant_of-self c = forget_stands c.args.host c.self.inside.stretches _ c.drop_own.ensures c.self.invariant
+
+pub returns : goal.returns
+returns c = ap all_bytes c.drop_own.ensures ∙ own_gone c.args.host c.self.inside.stretches ∙ ap
+    (filter (λ byte. not (byte.writer.0 == c.args.host.0))) c.self.view_is

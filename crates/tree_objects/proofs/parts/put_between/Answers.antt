@@ -3,7 +3,7 @@ use Rattle.std.specs.List.{splice}
 use Rattle.std.specs.Vec.Iter.{into_iter_len}
 use Rattle.std.proofs.lemmas.Grind.{common_steps}
 use Rattle.tree_objects.proofs.Cuts.{yields_all}
-use Rattle.tree_objects.proofs.unsaved.put_between.Goals as goal
+use Rattle.tree_objects.proofs.parts.put_between.Goals as goal
 
 pub returns-clause-ok : goal.returns-clause-ok
 returns-clause-ok c =
@@ -11,5 +11,5 @@ returns-clause-ok c =
     let long : into_iter_len done.0 ≡ length list = done.2.1 ∙ grind (arith, common_steps) in
     c.from_vec.ensures
     ∙ done.4
-    ∙ ap (λ ys. splice c.into_vec-bytes.result.items cut.from cut.to ys) (yields_all done.0 list done.1 done.2.0 long done.3)
-    ∙ ap (λ xs. splice xs cut.from cut.to list) (c.into_vec-bytes.ensures ∙ c.replace.ensures.value)
+    ∙ ap (λ ys. splice c.into_vec-list.result.items cut.from cut.to ys) (yields_all done.0 list done.1 done.2.0 long done.3)
+    ∙ ap (λ xs. splice xs cut.from cut.to list) (c.into_vec-list.ensures ∙ c.replace.ensures.value)
