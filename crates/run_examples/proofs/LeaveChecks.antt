@@ -41,8 +41,7 @@ use Rattle.run_rules.specs.declared.applied.Leave.{Leave}
 use Rattle.run_rules.specs.declared.applied.Why.{Why}
 use Rattle.run_rules.specs.declared.step.Asked.{Asked as AskedCall}
 use Rattle.run_rules.specs.declared.step.Cause.{Cause}
-use Rattle.run_rules.specs.declared.step.Cause.TheVariants.{Evict, Freight, Lapse, Line as LineOf}
-use Rattle.run_rules.specs.declared.step.Cause.TheVariants.{Message as Came, Restart}
+use Rattle.run_rules.specs.declared.step.Cause.TheVariants.{Message as Came, Line as LineOf, Restart, Lapse, Evict}
 use Rattle.run_rules.specs.declared.step.Cause.TheVariants.{End, Flushed}
 use Rattle.run_rules.specs.declared.step.Labelled.{Labelled}
 use Rattle.run_rules.specs.declared.step.Step.{Step}
@@ -354,7 +353,6 @@ may_leave site user past s Stopped t = says is_down s
 
 unfoldable pub is_evict : Cause → Bool
 is_evict Evict = true
-is_evict (Freight freight) = true
 is_evict _ = false
 
 unfoldable pub leave_tests : ServerId → User → List Step → Step → List Bool

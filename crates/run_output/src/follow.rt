@@ -119,7 +119,10 @@ fn follow_move(tree: &mut Tree, server: ServerId, of: &Move) -> Result<(), NoMem
             last: _,
         } => Ok(()),
         Move::Back(_) => Ok(()),
-        Move::Left { fileset, to: _ } => tree.left(server, *fileset),
+        Move::Left { fileset, to: _ } => {
+            tree.left(server, *fileset);
+            Ok(())
+        }
     }
 }
 
