@@ -102,3 +102,15 @@ fn push_move(history: &mut Items<Entry>, server: ServerId, of: &Move) -> Result<
         }),
     }
 }
+
+// The entry of a call.
+fn call_entry(answer: &Answer) -> Result<Entry, NoMemory>
+    ensures { IfOk result (λ entry. entry ≡ call_entry answer.now) }
+{
+    Ok(Entry::Call {
+        host: answer.host,
+        k: answer.k,
+        reply: answer.reply.copy()?,
+        call: answer.call.copy()?,
+    })
+}
