@@ -139,8 +139,8 @@ by_cause m Evict rest n k h = ⊎_elim
     (λ (u : (Evict ≡ CameBy m) × ((n ≡ suc k) × CountIs (λ y. y ≡ m) rest k)). let e = u.0 in absurd (cc))
     (λ (u : (Evict ≡ CameBy m → ⊥) × CountIs (λ y. y ≡ m) rest n). u.1) h
 by_cause m (Freight freight) rest n k h = ⊎_elim
-    (λ (u : ((Freight freight) ≡ CameBy m) × ((n ≡ suc k) × CountIs (λ y. y ≡ m) rest k)). let e = u.0 in absurd (cc))
-    (λ (u : ((Freight freight) ≡ CameBy m → ⊥) × CountIs (λ y. y ≡ m) rest n). u.1) h
+    (λ (u : (Freight freight ≡ CameBy m) × ((n ≡ suc k) × CountIs (λ y. y ≡ m) rest k)). let e = u.0 in absurd (cc))
+    (λ (u : (Freight freight ≡ CameBy m → ⊥) × CountIs (λ y. y ≡ m) rest n). u.1) h
 by_cause m End rest n k h = ⊎_elim
     (λ (u : (End ≡ CameBy m) × ((n ≡ suc k) × CountIs (λ y. y ≡ m) rest k)). let e = u.0 in absurd (cc))
     (λ (u : (End ≡ CameBy m → ⊥) × CountIs (λ y. y ≡ m) rest n). u.1) h

@@ -279,7 +279,7 @@ module _ (script : Script) (start : Tree) (firsts : ServerId → ℕ) (past : Li
           bare (no_message v S tree s g.works.applies (λ m q. let r : Evict ≡ Came m = sym e ∙ q in cc))
           (ap (λ x. after_cause x S) (sym e))
       causes (Freight freight) e =
-          bare (no_message v S tree s g.works.applies (λ m q. let r : (Freight freight) ≡ Came m = sym e ∙ q in cc))
+          bare (no_message v S tree s g.works.applies (λ m q. let r : Freight freight ≡ Came m = sym e ∙ q in cc))
           (ap (λ x. after_cause x S) (sym e))
       causes End e =
           bare (no_message v S tree s g.works.applies (λ m q. let r : End ≡ Came m = sym e ∙ q in cc))

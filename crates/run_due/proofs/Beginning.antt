@@ -308,8 +308,8 @@ module _ (script : Script) (host : HostId) (past : List Step) (s : Step) (m : Ho
             (no_begin (λ n q. let r : Lapse ≡ LineOf n = sym e ∙ q in cc) (λ q. let r : Lapse ≡ End = sym e ∙ q in cc))
         by Evict e = quiet (λ n q. let r : Evict ≡ LineOf n = sym e ∙ q in cc) (gone_same Evict e refl)
             (no_begin (λ n q. let r : Evict ≡ LineOf n = sym e ∙ q in cc) (λ q. let r : Evict ≡ End = sym e ∙ q in cc))
-        by (Freight freight) e = quiet (λ n q. let r : (Freight freight) ≡ LineOf n = sym e ∙ q in cc) (gone_same (Freight freight) e refl)
-            (no_begin (λ n q. let r : (Freight freight) ≡ LineOf n = sym e ∙ q in cc) (λ q. let r : (Freight freight) ≡ End = sym e ∙ q in cc))
+        by (Freight freight) e = quiet (λ n q. let r : Freight freight ≡ LineOf n = sym e ∙ q in cc) (gone_same (Freight freight) e refl)
+            (no_begin (λ n q. let r : Freight freight ≡ LineOf n = sym e ∙ q in cc) (λ q. let r : Freight freight ≡ End = sym e ∙ q in cc))
         by End e = by_end e
         by Flushed e = absurd (m.lines.no_server.1 e)
 

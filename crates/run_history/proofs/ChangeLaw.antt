@@ -62,7 +62,8 @@ each_map P Q cause to (Replied x ∷ xs) K S all = each_map P Q cause to xs (fil
 each_map P Q cause to (Stored h f ss n ∷ xs) K S all =
     each_map P Q cause to xs (filesets_after cause K (Stored h f ss n)) S all
 each_map P Q cause to (IsDown h ∷ xs) K S all = each_map P Q cause to xs (filesets_after cause K (IsDown h)) S all
-each_map P Q cause to (IsMoved move ∷ xs) K S all = each_map P Q cause to xs (filesets_after cause K (IsMoved move)) S all
+each_map P Q cause to (IsMoved move ∷ xs) K S all =
+    each_map P Q cause to xs (filesets_after cause K (IsMoved move)) S all
 
 pub each_both : (P Q : List Doing → Tree → Written → Type 0) (cause : Cause) (xs : List Applied) (K : Tree) (S : List Doing)
     → EachChange P cause K S xs → EachChange Q cause K S xs → EachChange (λ S K x. P S K x × Q S K x) cause K S xs

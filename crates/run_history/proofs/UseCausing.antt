@@ -225,7 +225,7 @@ module _ (v : ServerId) (S : List Doing) (tree : Tree) (s : Step) (k : ServerApp
             absurd (some (no_message v S tree s k (λ m q. (let r : Line line ≡ Came m = sym e ∙ q in cc))))
         go Lapse e = absurd (some (no_message v S tree s k (λ m q. (let r : Lapse ≡ Came m = sym e ∙ q in cc))))
         go Evict e = absurd (some (no_message v S tree s k (λ m q. (let r : Evict ≡ Came m = sym e ∙ q in cc))))
-        go (Freight freight) e = absurd (some (no_message v S tree s k (λ m q. (let r : (Freight freight) ≡ Came m = sym e ∙ q in cc))))
+        go (Freight freight) e = absurd (some (no_message v S tree s k (λ m q. (let r : Freight freight ≡ Came m = sym e ∙ q in cc))))
         go End e = absurd (some (no_message v S tree s k (λ m q. (let r : End ≡ Came m = sym e ∙ q in cc))))
 
 -- the end of a use stands before what is decided

@@ -63,7 +63,8 @@ each_in P cause (Stored h f ss n ∷ xs) K D all x (inr i) =
 each_in P cause (IsDown h ∷ xs) K D all x (inl e) = cc
 each_in P cause (IsMoved move ∷ xs) K D all x (inl e) = cc
 each_in P cause (IsDown h ∷ xs) K D all x (inr i) = each_in P cause xs (filesets_after cause K (IsDown h)) D all x i
-each_in P cause (IsMoved move ∷ xs) K D all x (inr i) = each_in P cause xs (filesets_after cause K (IsMoved move)) D all x i
+each_in P cause (IsMoved move ∷ xs) K D all x (inr i) =
+    each_in P cause xs (filesets_after cause K (IsMoved move)) D all x i
 
 -- what is written down is decided
 done_decided : (x : Written) (xs : List Applied) → In (IsDone x) xs → In (IsDone x) (decisions xs)
