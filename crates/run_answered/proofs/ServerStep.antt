@@ -60,6 +60,7 @@ use Rattle.run_tokens.proofs.Invariant.{Alone}
 use Rattle.run_tokens.proofs.Words.{applied_at, made_at}
 use Rattle.run_rules.specs.declared.applied.Answer.{Answer}
 use Rattle.run_rules.specs.declared.applied.Applied.{Applied}
+use Rattle.run_rules.specs.declared.applied.Move.TheVariants.{Arrives, Back, Leaves, Left, Part}
 use Rattle.run_rules.specs.declared.applied.Written.{Written}
 use Rattle.run_rules.specs.declared.step.Asked.{Asked}
 use Rattle.run_rules.specs.declared.step.Cause.{Cause}
@@ -101,7 +102,13 @@ module _ (v : ServerId) (h : HostId) where
   mine_split (IsDone x ∷ xs) = refl
   mine_split (Stored g f ss n ∷ xs) = mine_split xs
   mine_split (IsDown g ∷ xs) = mine_split xs
-  mine_split (IsMoved move ∷ xs) = mine_split xs
+  mine_split (IsMoved (Leaves f to q m) ∷ xs) = mine_split xs
+  mine_split (IsMoved (Arrives head) ∷ xs) =
+      ap (λ z. entry_as h (call_entry head.written.answer) ++ z) (mine_split xs)
+      ∙ sym (append_assoc (entry_as h (call_entry head.written.answer)) (mine (by_cause xs)) (mine (decisions xs)))
+  mine_split (IsMoved (Part f last) ∷ xs) = mine_split xs
+  mine_split (IsMoved (Back w) ∷ xs) = mine_split xs
+  mine_split (IsMoved (Left f to) ∷ xs) = mine_split xs
   mine_split (Replied a ∷ xs) =
       ap (λ z. entry_as h (call_entry a) ++ z) (mine_split xs)
       ∙ sym (append_assoc (entry_as h (call_entry a)) (mine (by_cause xs)) (mine (decisions xs)))
