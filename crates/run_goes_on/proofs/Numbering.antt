@@ -110,6 +110,7 @@ module _ (h : HostId) (fs : FilesetId) (k : ℕ) where
   written_deciding (IsDown g ∷ xs) S o = elim (written_deciding xs S o) [
     | inl old ↦ inl old
     | inr x ↦ inr (x.0, inr x.1, x.2, x.3, x.4)
+  ]
   written_deciding (IsMoved move ∷ xs) S o = elim (written_deciding xs S o) [
     | inl old ↦ inl old
     | inr x ↦ inr (x.0, inr x.1, x.2, x.3, x.4)
