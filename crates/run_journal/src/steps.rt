@@ -8,8 +8,8 @@ use crate::line::{ToLine, put_field, put_tagged};
 use base_types::{Fid, FilesetId, HostId, Items, NoMemory, Node, ServerId, Span};
 use message_json::Line;
 use run_rules::{
-    Admission, Answer, Applied, Asked, Cause, Head, Labelled, Leave, Move, Request, Step, Wanted, Why,
-    Written,
+    Admission, Answer, Applied, Asked, Cause, Head, Labelled, Leave, Move, Request, Step, Wanted,
+    Why, Written,
 };
 use tree_calls::Mover;
 

@@ -274,6 +274,7 @@ no_act cause (IsDown host ∷ applied) tree state s fit = no_act cause applied t
   takes = fit.takes;
   acts_are = fit.acts_are;
   fresh = fit.fresh;
+})
 no_act cause (IsMoved move ∷ applied) tree state s fit = no_act cause applied tree state s (record {
   rise = fit.rise;
   decided = fit.decided.1;
