@@ -106,7 +106,7 @@ class Draft:
     def step(self):
         return Step(self.node, self.cause, self.asked, tuple(self.taken), tuple(self.answers), self.wrote,
                     tuple(self.begun), tuple(self.made), tuple(self.dropped), tuple(self.applied),
-                    tuple(self.admitted), tuple(self.sent), tuple(self.reserved))
+                    tuple(self.admitted), tuple(self.sent), (), tuple(self.reserved))
 
 
 # ------------------------------------------------------------------------------------------------ looks (need_host)

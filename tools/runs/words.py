@@ -560,6 +560,12 @@ class Came:
 
 
 @word
+class Freight:
+    """Cause::Freight: a message of another server came"""
+    message: Message
+
+
+@word
 class Lapse:
     pass
 
@@ -667,6 +673,7 @@ class Step:
     applied: tuple = ()
     admitted: tuple = ()
     sent: tuple = ()
+    shipped: tuple = ()
     reserved: tuple = ()
 
 

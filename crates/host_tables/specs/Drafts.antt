@@ -34,5 +34,6 @@ step_of node cause draft = record {
   applied = [];
   admitted = [];
   sent = draft.sent;
+  shipped = [];
   reserved = [];
 }

@@ -58,6 +58,7 @@ impl Draft {
             applied: Items::new(alloc),
             admitted: Items::new(alloc),
             sent: self.sent,
+            shipped: Items::new(alloc),
             reserved: Items::new(alloc),
         }
     }

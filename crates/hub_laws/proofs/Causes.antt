@@ -23,7 +23,8 @@ use Rattle.run_rules.specs.Plans.{receiver_by, sent_in}
 use Rattle.run_rules.specs.Runs.{IsFrom}
 use Rattle.run_rules.specs.Steps.{is_node, steps_of_host}
 use Rattle.run_rules.specs.declared.step.Cause.{Cause}
-use Rattle.run_rules.specs.declared.step.Cause.TheVariants.{Line, Restart, Message as CameBy, Lapse, Evict, End}
+use Rattle.run_rules.specs.declared.step.Cause.TheVariants.{End, Evict, Freight, Lapse}
+use Rattle.run_rules.specs.declared.step.Cause.TheVariants.{Line, Message as CameBy, Restart}
 use Rattle.run_rules.specs.declared.step.Cause.TheVariants.{Flushed}
 use Rattle.run_rules.specs.declared.step.Step.{Step}
 use Rattle.hub_laws.proofs.Boards.{GivesSent}
@@ -137,6 +138,7 @@ module _ (script : Script) where
   once_cause P (Line line) past h = h
   once_cause P Lapse past h = h
   once_cause P Evict past h = h
+  once_cause P (Freight freight) past h = h
   once_cause P End past h = h
 
   once_step : (P : List Doing → Doing → Type 0) (s : Step) (past : List Doing) → Once P past → Once P

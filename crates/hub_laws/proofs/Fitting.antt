@@ -14,7 +14,8 @@ use Rattle.run_rules.specs.Past.{In}
 use Rattle.run_rules.specs.Plans.{Copy, CountIs, MayCome, Posting, all_left, copies_of, posted, resender}
 use Rattle.run_rules.specs.Runs.{IsRaised}
 use Rattle.run_rules.specs.declared.step.Cause.{Cause}
-use Rattle.run_rules.specs.declared.step.Cause.TheVariants.{Line, Restart, Message as CameBy, Lapse as LapsesBy}
+use Rattle.run_rules.specs.declared.step.Cause.TheVariants.{Freight, Lapse as LapsesBy, Line}
+use Rattle.run_rules.specs.declared.step.Cause.TheVariants.{Message as CameBy, Restart}
 use Rattle.run_rules.specs.declared.step.Cause.TheVariants.{Evict, End, Flushed}
 use Rattle.run_rules.specs.declared.step.Step.{Step}
 use Rattle.run_rules.specs.declared.fate.Fate.{Fate}
@@ -137,6 +138,9 @@ by_cause m LapsesBy rest n k h = ⊎_elim
 by_cause m Evict rest n k h = ⊎_elim
     (λ (u : (Evict ≡ CameBy m) × ((n ≡ suc k) × CountIs (λ y. y ≡ m) rest k)). let e = u.0 in absurd (cc))
     (λ (u : (Evict ≡ CameBy m → ⊥) × CountIs (λ y. y ≡ m) rest n). u.1) h
+by_cause m (Freight freight) rest n k h = ⊎_elim
+    (λ (u : (Freight freight ≡ CameBy m) × ((n ≡ suc k) × CountIs (λ y. y ≡ m) rest k)). let e = u.0 in absurd (cc))
+    (λ (u : (Freight freight ≡ CameBy m → ⊥) × CountIs (λ y. y ≡ m) rest n). u.1) h
 by_cause m End rest n k h = ⊎_elim
     (λ (u : (End ≡ CameBy m) × ((n ≡ suc k) × CountIs (λ y. y ≡ m) rest k)). let e = u.0 in absurd (cc))
     (λ (u : (End ≡ CameBy m → ⊥) × CountIs (λ y. y ≡ m) rest n). u.1) h
@@ -225,6 +229,7 @@ lapse_is (Line line) e = absurd (cc)
 lapse_is (Restart line) e = absurd (cc)
 lapse_is (CameBy m) e = absurd (cc)
 lapse_is Evict e = absurd (cc)
+lapse_is (Freight freight) e = absurd (cc)
 lapse_is End e = absurd (cc)
 lapse_is Flushed e = absurd (cc)
 

@@ -13,7 +13,7 @@ use Rattle.script_lines.specs.declared.script.Script.{Script}
 use Rattle.run_rules.specs.Past.{EachInTurn, In, Once, appended}
 use Rattle.run_rules.specs.Steps.{goes_with, lines_gone, lines_of}
 use Rattle.run_rules.specs.declared.step.Cause.{Cause}
-use Rattle.run_rules.specs.declared.step.Cause.TheVariants.{Line as LineOf, Restart, Message as CameBy}
+use Rattle.run_rules.specs.declared.step.Cause.TheVariants.{Freight, Line as LineOf, Message as CameBy, Restart}
 use Rattle.run_rules.specs.declared.step.Cause.TheVariants.{Lapse as LapsesBy, Evict, End, Flushed}
 use Rattle.run_rules.specs.declared.step.Step.{Step}
 use Rattle.hub_board.specs.Follows.{gone_in, goes, mark_of, raise_of}
@@ -122,6 +122,7 @@ module _ (script : Script) (node : Node) (flag : List ℕ) where
     by_cause (CameBy m) e i = still (CameBy m) e refl i
     by_cause LapsesBy e i = still LapsesBy e refl i
     by_cause Evict e i = still Evict e refl i
+    by_cause (Freight freight) e i = still (Freight freight) e refl i
     by_cause End e i = still End e refl i
     by_cause Flushed e i = still Flushed e refl i
 
@@ -150,6 +151,7 @@ gone_after (s ∷ xs) own =
     same_goes (CameBy m) = refl
     same_goes LapsesBy = refl
     same_goes Evict = refl
+    same_goes (Freight freight) = refl
     same_goes End = refl
     same_goes Flushed = refl
 
@@ -170,5 +172,6 @@ gone_few lines (s ∷ xs) own few goes_so = gone_few lines xs (s ∷ own) (by_ca
     by_cause (CameBy m) e = let z = ap goes_with e in omega arith
     by_cause LapsesBy e = let z = ap goes_with e in omega arith
     by_cause Evict e = let z = ap goes_with e in omega arith
+    by_cause (Freight freight) e = let z = ap goes_with e in omega arith
     by_cause End e = let z = ap goes_with e in omega arith
     by_cause Flushed e = let z = ap goes_with e in omega arith

@@ -107,6 +107,7 @@ fn step_of(alloc: Global, node: Node, number: u64, last: u64) -> Result<Step, No
         applied: Items::new(alloc),
         admitted: Items::new(alloc),
         sent,
+        shipped: Items::new(alloc),
         reserved: Items::new(alloc),
     })
 }

@@ -64,6 +64,7 @@ pub fn step_of(alloc: Global, node: Node, cause: Cause, sent: Items<Message>) ->
         applied: Items::new(alloc),
         admitted: Items::new(alloc),
         sent,
+        shipped: Items::new(alloc),
         reserved: Items::new(alloc),
     }
 }

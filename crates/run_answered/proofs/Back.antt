@@ -8,7 +8,7 @@ use Rattle.run_rules.specs.Doings.{Doing, admitting, after_admitting, after_deci
 use Rattle.run_rules.specs.Doings.Doing.{Admits, MakesWant, Reserves, Sent, WritesDown}
 use Rattle.run_rules.specs.Past.{Once, appended}
 use Rattle.run_rules.specs.declared.applied.Applied.TheVariants.{Done as IsDone, IsDown, Replied, Stored}
-use Rattle.run_rules.specs.declared.applied.Applied.TheVariants.{Wants as IsWanted}
+use Rattle.run_rules.specs.declared.applied.Applied.TheVariants.{Moves as IsMoved, Wants as IsWanted}
 use Rattle.run_rules.specs.declared.applied.Admission.{Admission}
 use Rattle.run_rules.specs.declared.applied.Applied.{Applied}
 use Rattle.run_rules.specs.declared.applied.Wanted.{Wanted}
@@ -49,6 +49,7 @@ module _ (P : List Doing → Doing → Type 0) where
   back_deciding wants writes (Replied x ∷ xs) S o = back_deciding wants writes xs S o
   back_deciding wants writes (Stored h f ss n ∷ xs) S o = back_deciding wants writes xs S o
   back_deciding wants writes (IsDown h ∷ xs) S o = back_deciding wants writes xs S o
+  back_deciding wants writes (IsMoved move ∷ xs) S o = back_deciding wants writes xs S o
 
   -- after its decisions a step writes and takes nothing
   pub back_written : ((before : List Doing) (h : HostId) (e n : ℕ) (b : Body) → P before (Sent h e n b) → ⊥)

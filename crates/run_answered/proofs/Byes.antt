@@ -20,7 +20,7 @@ use Rattle.run_rules.specs.Past.{In}
 use Rattle.run_rules.specs.Steps.{goes_with, lines_gone, lines_of}
 use Rattle.run_rules.specs.Tokens.{IsKnown, LabelInUse, NoneOpen, Owns}
 use Rattle.run_rules.specs.declared.step.Cause.{Cause}
-use Rattle.run_rules.specs.declared.step.Cause.TheVariants.{End, Evict, Flushed, Lapse, Line as LineOf}
+use Rattle.run_rules.specs.declared.step.Cause.TheVariants.{End, Evict, Flushed, Freight, Lapse, Line as LineOf}
 use Rattle.run_rules.specs.declared.step.Cause.TheVariants.{Message as Came, Restart}
 use Rattle.run_rules.specs.declared.step.Labelled.{Labelled}
 use Rattle.run_rules.specs.declared.step.Step.{Step}
@@ -59,6 +59,7 @@ module _ (script : Script) (host : HostId) where
         go (Came x) e = still (Came x) e refl
         go Lapse e = still Lapse e refl
         go Evict e = still Evict e refl
+        go (Freight freight) e = still (Freight freight) e refl
         go End e = still End e refl
         go Flushed e = absurd (m.lines.no_server.1 e)
 

@@ -39,7 +39,7 @@ use Rattle.message_types.specs.declared.message.Body.TheVariants.{Gone}
 use Rattle.run_contents.specs.Steps.{HostRun}
 use Rattle.run_tokens.proofs.Words.{acts_after, if_host, if_server, own_after}
 use Rattle.run_rules.specs.declared.step.Cause.{Cause}
-use Rattle.run_rules.specs.declared.step.Cause.TheVariants.{End, Evict, Flushed, Lapse, Line, Message as Came}
+use Rattle.run_rules.specs.declared.step.Cause.TheVariants.{End, Evict, Flushed, Freight, Lapse, Line, Message as Came}
 use Rattle.run_rules.specs.declared.step.Cause.TheVariants.{Restart}
 use Rattle.run_rules.specs.declared.step.Step.{Step}
 
@@ -83,6 +83,7 @@ module _ (h : HostId) (e n : ℕ) (b : Body) where
   cause_back (Line line) S o = o
   cause_back Lapse S o = o
   cause_back Evict S o = o
+  cause_back (Freight freight) S o = o
   cause_back End S o = o
 
   sent_split : (s : Step) (S : List Doing) → SentTo (after_step s S) h e n b → SentTo S h e n b ⊎ SentNow s h b

@@ -52,7 +52,7 @@ use Rattle.run_rules.specs.ServerTokens.{ServerTokens}
 use Rattle.run_rules.specs.Steps.{steps_of_host, steps_of_server}
 use Rattle.run_rules.specs.Tokens.{IsKnown, IsOpen, Made, number_of}
 use Rattle.run_rules.specs.declared.applied.Applied.TheVariants.{Done as IsDone, IsDown, Replied, Stored}
-use Rattle.run_rules.specs.declared.applied.Applied.TheVariants.{Wants as IsWanted}
+use Rattle.run_rules.specs.declared.applied.Applied.TheVariants.{Moves as IsMoved, Wants as IsWanted}
 use Rattle.run_parts.proofs.Cells.{cases_host}
 use Rattle.run_contents.specs.Steps.{HostRun}
 use Rattle.run_due.specs.Begun.{asked_as}
@@ -60,10 +60,11 @@ use Rattle.run_tokens.proofs.Invariant.{Alone}
 use Rattle.run_tokens.proofs.Words.{applied_at, made_at}
 use Rattle.run_rules.specs.declared.applied.Answer.{Answer}
 use Rattle.run_rules.specs.declared.applied.Applied.{Applied}
+use Rattle.run_rules.specs.declared.applied.Move.TheVariants.{Arrives, Back, Leaves, Left, Part}
 use Rattle.run_rules.specs.declared.applied.Written.{Written}
 use Rattle.run_rules.specs.declared.step.Asked.{Asked}
 use Rattle.run_rules.specs.declared.step.Cause.{Cause}
-use Rattle.run_rules.specs.declared.step.Cause.TheVariants.{End, Evict, Flushed, Lapse, Line, Message as Came}
+use Rattle.run_rules.specs.declared.step.Cause.TheVariants.{End, Evict, Flushed, Freight, Lapse, Line, Message as Came}
 use Rattle.run_rules.specs.declared.step.Cause.TheVariants.{Restart}
 use Rattle.run_rules.specs.declared.step.Step.{Step}
 
@@ -101,6 +102,13 @@ module _ (v : ServerId) (h : HostId) where
   mine_split (IsDone x ∷ xs) = refl
   mine_split (Stored g f ss n ∷ xs) = mine_split xs
   mine_split (IsDown g ∷ xs) = mine_split xs
+  mine_split (IsMoved (Leaves f to q m) ∷ xs) = mine_split xs
+  mine_split (IsMoved (Arrives head) ∷ xs) =
+      ap (λ z. entry_as h (call_entry head.written.answer) ++ z) (mine_split xs)
+      ∙ sym (append_assoc (entry_as h (call_entry head.written.answer)) (mine (by_cause xs)) (mine (decisions xs)))
+  mine_split (IsMoved (Part f last) ∷ xs) = mine_split xs
+  mine_split (IsMoved (Back w) ∷ xs) = mine_split xs
+  mine_split (IsMoved (Left f to) ∷ xs) = mine_split xs
   mine_split (Replied a ∷ xs) =
       ap (λ z. entry_as h (call_entry a) ++ z) (mine_split xs)
       ∙ sym (append_assoc (entry_as h (call_entry a)) (mine (by_cause xs)) (mine (decisions xs)))
@@ -154,6 +162,7 @@ module _ (P : List Doing → Doing → Type 0) where
   cause_on (Line line) S o = o
   cause_on Lapse S o = o
   cause_on Evict S o = o
+  cause_on (Freight freight) S o = o
   cause_on End S o = o
 
   pub step_on : (s : Step) (S : List Doing) → Once P S → Once P (after_step s S)
@@ -170,6 +179,7 @@ wrote_cause w Flushed S (inr o) = o
 wrote_cause w (Line line) S o = o
 wrote_cause w Lapse S o = o
 wrote_cause w Evict S o = o
+wrote_cause w (Freight freight) S o = o
 wrote_cause w End S o = o
 
 module _ (script : Script) (start : Tree) (firsts : ServerId → ℕ) (real : (v : ServerId) → 0 < firsts v)
@@ -209,6 +219,7 @@ module _ (script : Script) (start : Tree) (firsts : ServerId → ℕ) (real : (v
   caused_epoch (Line line) = omega arith
   caused_epoch Lapse = omega arith
   caused_epoch Evict = omega arith
+  caused_epoch (Freight freight) = omega arith
   caused_epoch End = omega arith
 
   caused : Mid (after_cause s.cause S)
@@ -277,6 +288,7 @@ module _ (script : Script) (start : Tree) (firsts : ServerId → ℕ) (real : (v
       go (Line line) q o = inl o
       go Lapse q o = inl o
       go Evict q o = inl o
+      go (Freight freight) q o = inl o
       go End q o = inl o
 
   -- what a first give-back of the host applies
@@ -597,6 +609,7 @@ module _ (script : Script) (start : Tree) (firsts : ServerId → ℕ) (real : (v
   decides (Replied x ∷ xs) K D E may tokens mid state = elim may.0 [ ]
   decides (Stored g f ss n ∷ xs) K D E may tokens mid state = elim may.0 [ ]
   decides (IsDown g ∷ xs) K D E may tokens mid state = elim may.0 [ ]
+  decides (IsMoved move ∷ xs) K D E may tokens mid state = elim may.0 [ ]
 
   same_deciding : (xs : List Applied) → deciding (decisions xs) ≡ deciding xs
   same_deciding [] = refl

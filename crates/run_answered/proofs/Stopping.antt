@@ -9,7 +9,8 @@ use Rattle.script_lines.specs.declared.script.Deed.TheVariants.{Stop}
 use Rattle.script_lines.specs.declared.script.Line.{Line}
 use Rattle.script_lines.specs.declared.script.Script.{Script}
 use Rattle.run_rules.specs.declared.step.Cause.{Cause}
-use Rattle.run_rules.specs.declared.step.Cause.TheVariants.{Message as Came, Line as LineOf, Restart, Lapse, Evict, End}
+use Rattle.run_rules.specs.declared.step.Cause.TheVariants.{End, Evict, Freight, Lapse}
+use Rattle.run_rules.specs.declared.step.Cause.TheVariants.{Line as LineOf, Message as Came, Restart}
 use Rattle.run_rules.specs.declared.step.Cause.TheVariants.{Flushed}
 use Rattle.run_rules.specs.declared.step.Step.{Step}
 use Rattle.run_rules.specs.HostMay.{DoesLine}
@@ -78,6 +79,7 @@ stop_gone script host (s ∷ past) run line i stop v there =
     by old (Came x) e = same old (Came x) e refl
     by old Lapse e = same old Lapse e refl
     by old Evict e = same old Evict e refl
+    by old (Freight freight) e = same old (Freight freight) e refl
     by old End e = same old End e refl
     by old Flushed e = absurd (run.1.lines.no_server.1 e)
 

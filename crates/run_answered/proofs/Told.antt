@@ -27,7 +27,7 @@ use Rattle.run_rules.specs.ServerMay.DoneFor.{Answered, OfWritten, Repeated, Tak
 use Rattle.run_rules.specs.ServerTokens.{ServerTokens}
 use Rattle.run_rules.specs.Wants.{Decides, IsOld, IsQueued}
 use Rattle.run_rules.specs.declared.applied.Applied.TheVariants.{Done as IsDone, IsDown, Replied, Stored}
-use Rattle.run_rules.specs.declared.applied.Applied.TheVariants.{Wants as IsWanted}
+use Rattle.run_rules.specs.declared.applied.Applied.TheVariants.{Moves as IsMoved, Wants as IsWanted}
 use Rattle.run_rules.specs.declared.applied.Request.TheVariants.{Change as Changes}
 use Rattle.run_rules.specs.declared.applied.Admission.{Admission}
 use Rattle.run_rules.specs.declared.applied.Applied.{Applied}
@@ -35,7 +35,7 @@ use Rattle.run_rules.specs.declared.applied.Request.{Request}
 use Rattle.run_rules.specs.declared.applied.Wanted.{Wanted}
 use Rattle.run_rules.specs.declared.applied.Written.{Written}
 use Rattle.run_rules.specs.declared.step.Cause.{Cause}
-use Rattle.run_rules.specs.declared.step.Cause.TheVariants.{End, Evict, Flushed, Lapse, Line, Message as Came}
+use Rattle.run_rules.specs.declared.step.Cause.TheVariants.{End, Evict, Flushed, Freight, Lapse, Line, Message as Came}
 use Rattle.run_rules.specs.declared.step.Cause.TheVariants.{Restart}
 use Rattle.run_rules.specs.declared.step.Step.{Step}
 
@@ -144,6 +144,7 @@ causes Flushed S old = on S Flushes (λ w e. cc) (λ h e n b q. cc) (λ w e. cc)
 causes (Line line) S old = old
 causes Lapse S old = old
 causes Evict S old = old
+causes (Freight freight) S old = old
 causes End S old = old
 
 same_want : (v w : Wanted) → MakesWant v ≡ MakesWant w → v ≡ w
@@ -261,6 +262,7 @@ decides v before s (IsDone x ∷ xs) tree S may old =
 decides v before s (Replied x ∷ xs) tree S may old = elim may.0 [ ]
 decides v before s (Stored h f ss n ∷ xs) tree S may old = elim may.0 [ ]
 decides v before s (IsDown h ∷ xs) tree S may old = elim may.0 [ ]
+decides v before s (IsMoved move ∷ xs) tree S may old = elim may.0 [ ]
 
 admits : (cs : List Admission) (S : List Doing) → Told S → Told (appended (admitting cs) S)
 admits [] S old = old

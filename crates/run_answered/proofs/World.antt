@@ -24,14 +24,14 @@ use Rattle.run_rules.specs.ServerTokens.{ServerTokens}
 use Rattle.run_rules.specs.Steps.{steps_of_host, steps_of_server}
 use Rattle.run_rules.specs.Tokens.{calls_begun}
 use Rattle.run_rules.specs.declared.applied.Applied.TheVariants.{Done as IsDone, IsDown, Replied, Stored}
-use Rattle.run_rules.specs.declared.applied.Applied.TheVariants.{Wants as IsWanted}
+use Rattle.run_rules.specs.declared.applied.Applied.TheVariants.{Moves as IsMoved, Wants as IsWanted}
 use Rattle.run_contents.specs.Steps.{HostRun}
 use Rattle.run_tokens.proofs.Words.{acts_after, if_host, if_server, own_after}
 use Rattle.run_rules.specs.declared.applied.Admission.{Admission}
 use Rattle.run_rules.specs.declared.applied.Applied.{Applied}
 use Rattle.run_rules.specs.declared.applied.Written.{Written}
 use Rattle.run_rules.specs.declared.step.Cause.{Cause}
-use Rattle.run_rules.specs.declared.step.Cause.TheVariants.{End, Evict, Flushed, Lapse, Line, Message as Came}
+use Rattle.run_rules.specs.declared.step.Cause.TheVariants.{End, Evict, Flushed, Freight, Lapse, Line, Message as Came}
 use Rattle.run_rules.specs.declared.step.Cause.TheVariants.{Restart}
 use Rattle.run_rules.specs.declared.step.Step.{Step}
 
@@ -117,6 +117,7 @@ asked_causes Flushed S old = on Flushes S (λ w e. cc) old
 asked_causes (Line line) S old = old
 asked_causes Lapse S old = old
 asked_causes Evict S old = old
+asked_causes (Freight freight) S old = old
 asked_causes End S old = old
 
 asked_decides : (v : ServerId) (xs : List Applied) (S : List Doing) → EachInTurn (ServerTokens v) (deciding xs) S
@@ -130,6 +131,7 @@ asked_decides v (IsDone x ∷ xs) S may old =
 asked_decides v (Replied x ∷ xs) S may old = asked_decides v xs S may old
 asked_decides v (Stored h f ss n ∷ xs) S may old = asked_decides v xs S may old
 asked_decides v (IsDown h ∷ xs) S may old = asked_decides v xs S may old
+asked_decides v (IsMoved move ∷ xs) S may old = asked_decides v xs S may old
 
 asked_admits : (cs : List Admission) (S : List Doing) → AllAsked S → AllAsked (appended (admitting cs) S)
 asked_admits [] S old = old
@@ -223,6 +225,7 @@ module _ (script : Script) (start : Tree) (firsts : ServerId → ℕ) (real : (v
         go (Line line) q o = old o
         go Lapse q o = old o
         go Evict q o = old o
+        go (Freight freight) q o = old o
         go End q o = old o
 
     step_heard : (v : ServerId) (past : List Step) (s : Step) (S : List Doing) → CameToServer v past s

@@ -37,7 +37,7 @@ use Rattle.run_rules.specs.ServerDecides.{FirstDown, FirstGiven, ServerApplies, 
 use Rattle.run_rules.specs.Tokens.{number_of}
 use Rattle.run_rules.specs.Views.{byte_of}
 use Rattle.run_rules.specs.declared.applied.Applied.TheVariants.{Done as IsDone, IsDown, Replied, Stored}
-use Rattle.run_rules.specs.declared.applied.Applied.TheVariants.{Wants as IsWanted}
+use Rattle.run_rules.specs.declared.applied.Applied.TheVariants.{Moves as IsMoved, Wants as IsWanted}
 use Rattle.run_tokens.specs.TokenLaws.{Applies}
 use Rattle.run_parts.proofs.Cells.{cases_host}
 use Rattle.run_parts.specs.Cells.{Does, kept_after as kept_after_part}
@@ -67,6 +67,7 @@ quiet_one (Stored h f ss n) = false
 quiet_one (IsDone x) = false
 quiet_one (Replied x) = true
 quiet_one (IsDown h) = true
+quiet_one (IsMoved move) = true
 quiet_one (IsWanted x) = true
 
 abbrev good : Tree → List Applied → Bool
@@ -74,6 +75,7 @@ good tree [] = true
 good tree (Stored h f ss n ∷ rest) = takes_gifts tree f && list_all quiet_one rest
 good tree (Replied x ∷ rest) = list_all quiet_one rest
 good tree (IsDown h ∷ rest) = list_all quiet_one rest
+good tree (IsMoved move ∷ rest) = list_all quiet_one rest
 good tree (IsWanted x ∷ rest) = list_all quiet_one rest
 good tree (IsDone x ∷ rest) = false
 
@@ -84,6 +86,7 @@ through_quiet cause (Stored h f ss n ∷ xs) tree e = absurd (false≢true e)
 through_quiet cause (IsDone x ∷ xs) tree e = absurd (false≢true e)
 through_quiet cause (Replied x ∷ xs) tree e = through_quiet cause xs tree e
 through_quiet cause (IsDown h ∷ xs) tree e = through_quiet cause xs tree e
+through_quiet cause (IsMoved move ∷ xs) tree e = through_quiet cause xs tree e
 through_quiet cause (IsWanted x ∷ xs) tree e = through_quiet cause xs tree e
 
 module _ (tree : Tree) (h : HostId) (g : Give) where
@@ -141,6 +144,7 @@ module _ (cause : Cause) (tree : Tree) where
       go true e = stores_of p (pieces_in cause) n (length_given (kept_view tree g Size) n) y e
       go false e = let non : Nothing ≡ Sets y = e in cc
   never_sets (IsDown h ∷ rest) f p y e = let non : Loses h ≡ Sets y = e in cc
+  never_sets (IsMoved move ∷ rest) f p y e = let non : Nothing ≡ Sets y = e in cc
   never_sets (Replied x ∷ rest) f p y e = let non : Nothing ≡ Sets y = e in cc
   never_sets (IsWanted x ∷ rest) f p y e = let non : Nothing ≡ Sets y = e in cc
   never_sets (IsDone x ∷ rest) f p y e = let non : Nothing ≡ Sets y = e in cc
@@ -287,6 +291,7 @@ module _ (cause : Cause) (tree : Tree) where
         ∙ sym (ap (λ (t : Tree). kept_view t f p) (through_quiet cause rest (tree_given tree g (pieces_in cause) n) q.1))
     first_view (Replied x ∷ rest) e f p = sym (ap (λ (t : Tree). kept_view t f p) (through_quiet cause rest tree e))
     first_view (IsDown h ∷ rest) e f p = sym (ap (λ (t : Tree). kept_view t f p) (through_quiet cause rest tree e))
+    first_view (IsMoved move ∷ rest) e f p = sym (ap (λ (t : Tree). kept_view t f p) (through_quiet cause rest tree e))
     first_view (IsWanted x ∷ rest) e f p = sym (ap (λ (t : Tree). kept_view t f p) (through_quiet cause rest tree e))
     first_view (IsDone x ∷ rest) e f p = absurd (false≢true e)
 

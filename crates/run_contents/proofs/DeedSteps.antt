@@ -38,7 +38,7 @@ use Rattle.run_rules.specs.ServerMay.{MaySend, ServerWorks}
 use Rattle.run_rules.specs.ServerTokens.{ServerStep, ServerTokens}
 use Rattle.run_rules.specs.Steps.{is_node, steps_of_host, steps_of_server}
 use Rattle.run_rules.specs.declared.applied.Applied.TheVariants.{Done as IsDone, IsDown, Replied, Stored}
-use Rattle.run_rules.specs.declared.applied.Applied.TheVariants.{Wants as IsWanted}
+use Rattle.run_rules.specs.declared.applied.Applied.TheVariants.{Moves as IsMoved, Wants as IsWanted}
 use Rattle.run_parts.proofs.Served.{after_doings}
 use Rattle.run_parts.specs.Doings.{doings, doings_cause}
 use Rattle.run_rules.specs.declared.journal.Journal.{Journal}
@@ -67,7 +67,7 @@ use Rattle.run_rules.specs.declared.applied.Admission.{Admission}
 use Rattle.run_rules.specs.declared.applied.Applied.{Applied}
 use Rattle.run_rules.specs.declared.applied.Wanted.{Wanted}
 use Rattle.run_rules.specs.declared.step.Cause.{Cause}
-use Rattle.run_rules.specs.declared.step.Cause.TheVariants.{End, Evict, Flushed, Lapse, Line, Message as Came}
+use Rattle.run_rules.specs.declared.step.Cause.TheVariants.{End, Evict, Flushed, Freight, Lapse, Line, Message as Came}
 use Rattle.run_rules.specs.declared.step.Cause.TheVariants.{Restart}
 use Rattle.run_rules.specs.declared.step.Step.{Step}
 
@@ -176,6 +176,7 @@ module _ (script : Script) (start : Tree) (firsts : ServerId → ℕ) (past : Li
   decides (Replied x ∷ xs) S0 tree last more D may at taken heard said good rest = elim may.0 [ ]
   decides (Stored h f ss n ∷ xs) S0 tree last more D may at taken heard said good rest = elim may.0 [ ]
   decides (IsDown h ∷ xs) S0 tree last more D may at taken heard said good rest = elim may.0 [ ]
+  decides (IsMoved move ∷ xs) S0 tree last more D may at taken heard said good rest = elim may.0 [ ]
 
   -- what a step is given
   module _ (tree : Tree) where
@@ -277,6 +278,9 @@ module _ (script : Script) (start : Tree) (firsts : ServerId → ℕ) (past : Li
       causes Evict e =
           bare (no_message v S tree s g.works.applies (λ m q. let r : Evict ≡ Came m = sym e ∙ q in cc))
           (ap (λ x. after_cause x S) (sym e))
+      causes (Freight freight) e =
+          bare (no_message v S tree s g.works.applies (λ m q. let r : Freight freight ≡ Came m = sym e ∙ q in cc))
+          (ap (λ x. after_cause x S) (sym e))
       causes End e =
           bare (no_message v S tree s g.works.applies (λ m q. let r : End ≡ Came m = sym e ∙ q in cc))
           (ap (λ x. after_cause x S) (sym e))
@@ -302,6 +306,7 @@ in_decided v cause (IsDone x ∷ xs) tree =
 in_decided v cause (Replied x ∷ xs) tree = in_decided v cause xs tree
 in_decided v cause (Stored h f ss n ∷ xs) tree = in_decided v cause xs tree
 in_decided v cause (IsDown h ∷ xs) tree = in_decided v cause xs tree
+in_decided v cause (IsMoved move ∷ xs) tree = in_decided v cause xs tree
 
 only_decisions : (xs : List Applied) → deciding (decisions xs) ≡ deciding xs
 only_decisions [] = refl
@@ -310,6 +315,7 @@ only_decisions (IsDone x ∷ xs) = refl
 only_decisions (Replied x ∷ xs) = only_decisions xs
 only_decisions (Stored h f ss n ∷ xs) = only_decisions xs
 only_decisions (IsDown h ∷ xs) = only_decisions xs
+only_decisions (IsMoved move ∷ xs) = only_decisions xs
 
 cause_first : (x : Cause) (S more : List Doing) → doings_cause x S [] ++ more ≡ doings_cause x S more
 cause_first (Came m) S more = refl
@@ -318,6 +324,7 @@ cause_first Flushed S more = refl
 cause_first (Line line) S more = refl
 cause_first Lapse S more = refl
 cause_first Evict S more = refl
+cause_first (Freight freight) S more = refl
 cause_first End S more = refl
 
 acts_of : (v : ServerId) (tree : Tree) (S : List Doing) (s : Step) → acts_in (deeds_of v tree S s) ≡ doings s S

@@ -24,7 +24,7 @@ use Rattle.run_rules.specs.ServerMay.{GrantsSo, MaySend, ServerMay}
 use Rattle.run_rules.specs.Steps.{steps_of_server}
 use Rattle.run_rules.specs.Wants.{IsQueued, body_of}
 use Rattle.run_rules.specs.declared.applied.Applied.TheVariants.{Done as IsDone, IsDown, Replied, Stored}
-use Rattle.run_rules.specs.declared.applied.Applied.TheVariants.{Wants as IsWanted}
+use Rattle.run_rules.specs.declared.applied.Applied.TheVariants.{Moves as IsMoved, Wants as IsWanted}
 use Rattle.run_rules.specs.declared.journal.Journal.{Journal}
 use Rattle.run_contents.specs.Laws.{EachSent, GrantsAreAsked, GrantsAtNode, GrantsBringNeeds}
 use Rattle.run_contents.proofs.Words.{one_needed}
@@ -35,7 +35,7 @@ use Rattle.run_rules.specs.declared.applied.Request.{Request}
 use Rattle.run_rules.specs.declared.applied.Wanted.{Wanted}
 use Rattle.run_rules.specs.declared.applied.Written.{Written}
 use Rattle.run_rules.specs.declared.step.Cause.{Cause}
-use Rattle.run_rules.specs.declared.step.Cause.TheVariants.{End, Evict, Flushed, Lapse, Line, Message as Came}
+use Rattle.run_rules.specs.declared.step.Cause.TheVariants.{End, Evict, Flushed, Freight, Lapse, Line, Message as Came}
 use Rattle.run_rules.specs.declared.step.Cause.TheVariants.{Restart}
 use Rattle.run_rules.specs.declared.step.Step.{Step}
 
@@ -74,6 +74,7 @@ causes Flushed S old = on S Flushes (λ w e. absurd (cc)) old
 causes (Line line) S old = old
 causes Lapse S old = old
 causes Evict S old = old
+causes (Freight freight) S old = old
 causes End S old = old
 
 -- what is taken in a step is so once its cause is
@@ -94,6 +95,7 @@ same_decisions (IsDone x ∷ xs) S = refl
 same_decisions (Replied x ∷ xs) S = same_decisions xs S
 same_decisions (Stored h f ss n ∷ xs) S = same_decisions xs S
 same_decisions (IsDown h ∷ xs) S = same_decisions xs S
+same_decisions (IsMoved move ∷ xs) S = same_decisions xs S
 
 same_want : (v w : Wanted) → MakesWant v ≡ MakesWant w → v ≡ w
 same_want v w e = cc
@@ -142,6 +144,7 @@ module _ (v : ServerId) (before : List Doing) (s : Step) where
   decides (Replied x ∷ xs) tree S may old heard = elim may.0 [ ]
   decides (Stored h f ss n ∷ xs) tree S may old heard = elim may.0 [ ]
   decides (IsDown h ∷ xs) tree S may old heard = elim may.0 [ ]
+  decides (IsMoved move ∷ xs) tree S may old heard = elim may.0 [ ]
 
 module _ (script : Script) (start : Tree) (v : ServerId) (steps : List Step) (S : List Doing) (s : Step)
     (m : ServerMay script start v steps S s) (old : AllTaken S) where

@@ -62,7 +62,7 @@ use Rattle.run_rules.specs.ServerDecides.DecidedSo.{IsRefusedByTable, MeetsPinne
 use Rattle.run_rules.specs.Steps.{is_node, steps_of_host, steps_of_server}
 use Rattle.run_rules.specs.Wants.{IsQueued, body_of, has_effect, is_use, moves_fileset}
 use Rattle.run_rules.specs.declared.applied.Applied.TheVariants.{Done as IsDone, IsDown, Replied, Stored}
-use Rattle.run_rules.specs.declared.applied.Applied.TheVariants.{Wants as IsWanted}
+use Rattle.run_rules.specs.declared.applied.Applied.TheVariants.{Moves as IsMoved, Wants as IsWanted}
 use Rattle.run_rules.specs.declared.applied.Request.TheVariants.{Change as Changes}
 use Rattle.run_contents.proofs.Grants.{AllTaken, Heard, all_taken, causes, taken_took, wanted, written_down}
 use Rattle.run_contents.proofs.KeptGives.{both, gives_keep}
@@ -228,6 +228,7 @@ module _ (script : Script) (start : Tree) (firsts : ServerId → ℕ) (past : Li
   decided_kept (Replied x ∷ xs) tree S may k taken heard said = elim may.0 [ ]
   decided_kept (Stored h f ss n ∷ xs) tree S may k taken heard said = elim may.0 [ ]
   decided_kept (IsDown h ∷ xs) tree S may k taken heard said = elim may.0 [ ]
+  decided_kept (IsMoved move ∷ xs) tree S may k taken heard said = elim may.0 [ ]
 
 -- what is stored by a cause
 stored_some : (tree : Tree) (h : HostId) (g : Give) (host : HostId) (f : Fid) (spans : List Span) (n : Option ℕ)
@@ -321,6 +322,7 @@ module _ (script : Script) (start : Tree) (firsts : ServerId → ℕ) (past : Li
       some (Some l) all = all l refl
   cause_kept (Replied x ∷ xs) tree most k = cause_kept xs tree (λ host g spans l i. most host g spans l (inr i)) k
   cause_kept (IsDown h ∷ xs) tree most k = cause_kept xs tree (λ host g spans l i. most host g spans l (inr i)) k
+  cause_kept (IsMoved move ∷ xs) tree most k = cause_kept xs tree (λ host g spans l i. most host g spans l (inr i)) k
   cause_kept (IsWanted x ∷ xs) tree most k = k
   cause_kept (IsDone x ∷ xs) tree most k = k
 

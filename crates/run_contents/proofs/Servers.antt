@@ -24,14 +24,15 @@ use Rattle.run_rules.specs.Past.{In, appended}
 use Rattle.run_rules.specs.Runs.{CameToServer, StepMeets, StepsMeet}
 use Rattle.run_rules.specs.Steps.{steps_of_host}
 use Rattle.run_rules.specs.declared.applied.Applied.TheVariants.{Done as IsDone, IsDown, Replied, Stored}
-use Rattle.run_rules.specs.declared.applied.Applied.TheVariants.{Wants as IsWanted}
+use Rattle.run_rules.specs.declared.applied.Applied.TheVariants.{Moves as IsMoved, Wants as IsWanted}
 use Rattle.run_contents.specs.Laws.{DonesAreBlind, DonesShowNothing, EachSent, GrantsAreAsked, GrantsAtNode}
 use Rattle.run_contents.specs.Laws.{GrantsBringNeeds, SentAtNode}
 use Rattle.run_tokens.proofs.Words.{acts_after, if_host, if_server, own_after}
 use Rattle.run_rules.specs.declared.applied.Admission.{Admission}
 use Rattle.run_rules.specs.declared.applied.Applied.{Applied}
 use Rattle.run_rules.specs.declared.step.Cause.{Cause}
-use Rattle.run_rules.specs.declared.step.Cause.TheVariants.{Message as Came, Restart, Flushed, Line, Lapse, Evict}
+use Rattle.run_rules.specs.declared.step.Cause.TheVariants.{Evict, Flushed, Freight, Lapse}
+use Rattle.run_rules.specs.declared.step.Cause.TheVariants.{Line, Message as Came, Restart}
 use Rattle.run_rules.specs.declared.step.Cause.TheVariants.{End}
 use Rattle.run_rules.specs.declared.step.Step.{Step}
 
@@ -102,6 +103,7 @@ writes (IsDone x ∷ xs) S old = writes xs (WritesDown x ∷ S) (other S (Writes
 writes (Replied x ∷ xs) S old = writes xs S old
 writes (Stored h f ss n ∷ xs) S old = writes xs S old
 writes (IsDown h ∷ xs) S old = writes xs S old
+writes (IsMoved move ∷ xs) S old = writes xs S old
 
 causes : (c : Cause) (S : List Doing) → Sensible S → Sensible (after_cause c S)
 causes (Came m) S old = other S (Took m.host m.epoch m.moves m.body) (λ h e n b q. cc) old
@@ -110,6 +112,7 @@ causes Flushed S old = other S Flushes (λ h e n b q. cc) old
 causes (Line line) S old = old
 causes Lapse S old = old
 causes Evict S old = old
+causes (Freight freight) S old = old
 causes End S old = old
 
 module _ (firsts : ServerId → ℕ) where
@@ -156,6 +159,7 @@ module _ (h : HostId) (e n : ℕ) (b : Body) where
   not_written (Replied x ∷ xs) S i = not_written xs S i
   not_written (Stored k f ss l ∷ xs) S i = not_written xs S i
   not_written (IsDown k ∷ xs) S i = not_written xs S i
+  not_written (IsMoved move ∷ xs) S i = not_written xs S i
 
   by_cause : (c : Cause) (S : List Doing) → In (Took h e n b) (after_cause c S)
       → ((m : Message) × (c ≡ Came m) × (Took h e n b ≡ Took m.host m.epoch m.moves m.body)) ⊎ In (Took h e n b) S
@@ -168,6 +172,7 @@ module _ (h : HostId) (e n : ℕ) (b : Body) where
   by_cause (Line line) S i = inr i
   by_cause Lapse S i = inr i
   by_cause Evict S i = inr i
+  by_cause (Freight freight) S i = inr i
   by_cause End S i = inr i
 
   in_step : (s : Step) (S : List Doing) → In (Took h e n b) (after_step s S)

@@ -22,7 +22,7 @@ use Rattle.run_rules.specs.Runs.{StepMeets, StepsMeet, firsts_of, past_of}
 use Rattle.run_rules.specs.ServerTokens.{MayAdmit, ServerTokens}
 use Rattle.run_rules.specs.Steps.{steps_of_host}
 use Rattle.run_rules.specs.declared.applied.Applied.TheVariants.{Done as IsDone, IsDown, Replied, Stored}
-use Rattle.run_rules.specs.declared.applied.Applied.TheVariants.{Wants as IsWanted}
+use Rattle.run_rules.specs.declared.applied.Applied.TheVariants.{Moves as IsMoved, Wants as IsWanted}
 use Rattle.run_contents.proofs.Servers.{cause_heard, heard, took_in}
 use Rattle.run_contents.proofs.Sound.{said_sound}
 use Rattle.run_contents.specs.Tokens.{GrantedAreSound}
@@ -30,7 +30,8 @@ use Rattle.run_tokens.proofs.Words.{acts_after, if_server}
 use Rattle.run_rules.specs.declared.applied.Admission.{Admission}
 use Rattle.run_rules.specs.declared.applied.Applied.{Applied}
 use Rattle.run_rules.specs.declared.step.Cause.{Cause}
-use Rattle.run_rules.specs.declared.step.Cause.TheVariants.{Message as Came, Restart, Flushed, Line, Lapse, Evict}
+use Rattle.run_rules.specs.declared.step.Cause.TheVariants.{Evict, Flushed, Freight, Lapse}
+use Rattle.run_rules.specs.declared.step.Cause.TheVariants.{Line, Message as Came, Restart}
 use Rattle.run_rules.specs.declared.step.Cause.TheVariants.{End}
 use Rattle.run_rules.specs.declared.step.Step.{Step}
 
@@ -101,6 +102,7 @@ module _ (script : Script) (v : ServerId) where
   writes (Replied x ∷ xs) S old = writes xs S old
   writes (Stored h f ss n ∷ xs) S old = writes xs S old
   writes (IsDown h ∷ xs) S old = writes xs S old
+  writes (IsMoved move ∷ xs) S old = writes xs S old
 
   pub plain : (S : List Doing) (a : Doing) → ((h : HostId) (e n : ℕ) (b : Body) → a ≡ Sent h e n b → ⊥)
       → ((h : HostId) (ts : List Token) → a ≡ Admits h ts → ⊥) → AllGood S → AllGood (a ∷ S)
@@ -113,6 +115,7 @@ module _ (script : Script) (v : ServerId) where
   causes (Line line) S old = old
   causes Lapse S old = old
   causes Evict S old = old
+  causes (Freight freight) S old = old
   causes End S old = old
 
   module _ (start : Tree) (firsts : ServerId → ℕ) (past : List Step) (run : StepsMeet script start firsts past) where
@@ -131,6 +134,7 @@ module _ (script : Script) (v : ServerId) where
     said_written (Replied x ∷ xs) S old = said_written xs S old
     said_written (Stored h f ss n ∷ xs) S old = said_written xs S old
     said_written (IsDown h ∷ xs) S old = said_written xs S old
+    said_written (IsMoved move ∷ xs) S old = said_written xs S old
 
     admits_one : (S : List Doing) (h : HostId) (ts : List Token) → MayAdmit v S h ts → AllSaid S → (t : Token) → In t ts
         → Good t

@@ -19,7 +19,8 @@ use Rattle.script_lines.specs.declared.script.Script.{Script}
 use Rattle.run_rules.specs.declared.applied.Answer.{Answer}
 use Rattle.run_rules.specs.declared.step.Asked.{Asked}
 use Rattle.run_rules.specs.declared.step.Cause.{Cause}
-use Rattle.run_rules.specs.declared.step.Cause.TheVariants.{Message as Came, Line as LineOf, Restart, Lapse, Evict, End, Flushed}
+use Rattle.run_rules.specs.declared.step.Cause.TheVariants.{End, Evict, Flushed, Freight, Lapse}
+use Rattle.run_rules.specs.declared.step.Cause.TheVariants.{Line as LineOf, Message as Came, Restart}
 use Rattle.run_rules.specs.declared.step.Step.{Step}
 use Rattle.run_rules.specs.HostMay.{DoesLine, HostMay}
 use Rattle.run_rules.specs.Messages.{HasStopped}
@@ -307,6 +308,8 @@ module _ (script : Script) (host : HostId) (past : List Step) (s : Step) (m : Ho
             (no_begin (λ n q. let r : Lapse ≡ LineOf n = sym e ∙ q in cc) (λ q. let r : Lapse ≡ End = sym e ∙ q in cc))
         by Evict e = quiet (λ n q. let r : Evict ≡ LineOf n = sym e ∙ q in cc) (gone_same Evict e refl)
             (no_begin (λ n q. let r : Evict ≡ LineOf n = sym e ∙ q in cc) (λ q. let r : Evict ≡ End = sym e ∙ q in cc))
+        by (Freight freight) e = quiet (λ n q. let r : Freight freight ≡ LineOf n = sym e ∙ q in cc) (gone_same (Freight freight) e refl)
+            (no_begin (λ n q. let r : Freight freight ≡ LineOf n = sym e ∙ q in cc) (λ q. let r : Freight freight ≡ End = sym e ∙ q in cc))
         by End e = by_end e
         by Flushed e = absurd (m.lines.no_server.1 e)
 

@@ -54,7 +54,7 @@ use Rattle.run_rules.specs.Tokens.{number_of}
 use Rattle.run_rules.specs.declared.applied.Applied.TheVariants.{IsDown as GoesDown}
 use Rattle.run_rules.specs.declared.applied.Admission.{Admission}
 use Rattle.run_rules.specs.declared.step.Cause.{Cause}
-use Rattle.run_rules.specs.declared.step.Cause.TheVariants.{Message as Came, End, Evict, Flushed, Lapse}
+use Rattle.run_rules.specs.declared.step.Cause.TheVariants.{End, Evict, Flushed, Freight, Lapse, Message as Came}
 use Rattle.run_rules.specs.declared.step.Cause.TheVariants.{Line as LineOf, Restart}
 use Rattle.run_rules.specs.declared.step.Step.{Step}
 
@@ -182,6 +182,7 @@ module _ (server : ServerId) (past : List Doing) (s : Step) where
   claim_from (LineOf line) c h n claim t first x = absurd (first (claims_before h n claim t x))
   claim_from Lapse c h n claim t first x = absurd (first (claims_before h n claim t x))
   claim_from Evict c h n claim t first x = absurd (first (claims_before h n claim t x))
+  claim_from (Freight freight) c h n claim t first x = absurd (first (claims_before h n claim t x))
   claim_from End c h n claim t first x = absurd (first (claims_before h n claim t x))
 
   pub all_answered : passes (answer_list past s) ≡ true → OnlyAnswers past s × ServerAnswers server past s

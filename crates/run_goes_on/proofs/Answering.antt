@@ -35,7 +35,8 @@ use Rattle.run_rules.specs.Steps.{steps_of_host, steps_of_server}
 use Rattle.run_rules.specs.Tokens.{IsKnown, IsOutstanding, Learns, Made, number_of}
 use Rattle.run_rules.specs.declared.applied.Admission.{Admission}
 use Rattle.run_rules.specs.declared.step.Cause.{Cause}
-use Rattle.run_rules.specs.declared.step.Cause.TheVariants.{End, Evict, Flushed, Lapse, Line, Message as Came, Restart}
+use Rattle.run_rules.specs.declared.step.Cause.TheVariants.{End, Evict, Flushed, Freight, Lapse}
+use Rattle.run_rules.specs.declared.step.Cause.TheVariants.{Line, Message as Came, Restart}
 use Rattle.run_rules.specs.declared.step.Step.{Step}
 use Rattle.run_tokens.proofs.Law.{Whole}
 use Rattle.run_tokens.proofs.Words.{acts_after, if_host, if_server, own_after}
@@ -365,6 +366,7 @@ module _ (script : Script) (start : Tree) (firsts : ServerId → ℕ) (real : (v
       same_by (Line line) is = refl
       same_by Lapse is = refl
       same_by Evict is = refl
+      same_by (Freight freight) is = refl
       same_by End is = refl
 
       same : epoch caused ≡ e0

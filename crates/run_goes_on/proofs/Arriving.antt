@@ -23,7 +23,8 @@ use Rattle.run_rules.specs.Runs.{IsDutiful, IsFrom, IsRun, StepDue, StepMeets, S
 use Rattle.run_rules.specs.Steps.{steps_of_host}
 use Rattle.run_rules.specs.declared.journal.Journal.{Journal}
 use Rattle.run_rules.specs.declared.step.Cause.{Cause}
-use Rattle.run_rules.specs.declared.step.Cause.TheVariants.{End, Evict, Flushed, Lapse, Line, Message as Came, Restart}
+use Rattle.run_rules.specs.declared.step.Cause.TheVariants.{End, Evict, Flushed, Freight, Lapse}
+use Rattle.run_rules.specs.declared.step.Cause.TheVariants.{Line, Message as Came, Restart}
 use Rattle.run_rules.specs.declared.step.Step.{Step}
 use Rattle.run_tokens.proofs.Invariant.{Alone}
 use Rattle.run_tokens.proofs.Law.{Whole, always}
@@ -45,6 +46,7 @@ cause_on P Flushed S o = inr o
 cause_on P (Line line) S o = o
 cause_on P Lapse S o = o
 cause_on P Evict S o = o
+cause_on P (Freight freight) S o = o
 cause_on P End S o = o
 
 pub from_cause : (P : List Doing → Doing → Type 0) (S : List Doing) (s : Step) → Once P (after_cause s.cause S)

@@ -66,7 +66,8 @@ use Rattle.run_rules.specs.Views.{Entered, HasLabel, KnowsItself, Stance, needs_
 use Rattle.run_rules.specs.Views.{verdict_in}
 use Rattle.run_rules.specs.declared.step.Asked.{Asked}
 use Rattle.run_rules.specs.declared.step.Cause.{Cause}
-use Rattle.run_rules.specs.declared.step.Cause.TheVariants.{End, Evict, Flushed, Lapse, Line as LineOf, Message as Came}
+use Rattle.run_rules.specs.declared.step.Cause.TheVariants.{End, Evict, Flushed, Freight}
+use Rattle.run_rules.specs.declared.step.Cause.TheVariants.{Lapse, Line as LineOf, Message as Came}
 use Rattle.run_rules.specs.declared.step.Cause.TheVariants.{Restart}
 use Rattle.run_rules.specs.declared.step.Labelled.{Labelled}
 use Rattle.run_rules.specs.declared.step.Step.{Step}
@@ -613,6 +614,7 @@ module _ (script : Script) (host : HostId) where
       by (Restart n) is = inr (none (Restart n) is (λ m q. cc))
       by Lapse is = inr (none Lapse is (λ m q. cc))
       by Evict is = inr (none Evict is (λ m q. cc))
+      by (Freight freight) is = inr (none (Freight freight) is (λ m q. cc))
       by End is = inr (none End is (λ m q. cc))
       by Flushed is = inr (none Flushed is (λ m q. cc))
 

@@ -42,12 +42,13 @@ use Rattle.run_rules.specs.Wants.{asker, body_of, has_effect, is_use, moves_file
 use Rattle.run_rules.specs.declared.applied.Admission.{Admission}
 use Rattle.run_rules.specs.declared.applied.Applied.{Applied}
 use Rattle.run_rules.specs.declared.applied.Applied.TheVariants.{Done as IsDone, IsDown, Replied, Stored}
-use Rattle.run_rules.specs.declared.applied.Applied.TheVariants.{Wants as IsWanted}
+use Rattle.run_rules.specs.declared.applied.Applied.TheVariants.{Moves as IsMoved, Wants as IsWanted}
 use Rattle.run_rules.specs.declared.applied.Request.{Request}
 use Rattle.run_rules.specs.declared.applied.Request.TheVariants.{Change as Changes, Fetch as Asks}
 use Rattle.run_rules.specs.declared.applied.Wanted.{Wanted}
 use Rattle.run_rules.specs.declared.step.Cause.{Cause}
-use Rattle.run_rules.specs.declared.step.Cause.TheVariants.{End, Evict, Flushed, Lapse, Line, Message as Came, Restart}
+use Rattle.run_rules.specs.declared.step.Cause.TheVariants.{End, Evict, Flushed, Freight, Lapse}
+use Rattle.run_rules.specs.declared.step.Cause.TheVariants.{Line, Message as Came, Restart}
 use Rattle.run_rules.specs.declared.step.Step.{Step}
 use Rattle.run_contents.proofs.Grants.{all_taken, same_decisions}
 use Rattle.run_tokens.proofs.Law.{always}
@@ -87,6 +88,7 @@ decides v before s (IsDone x ∷ xs) tree S may old =
 decides v before s (Replied x ∷ xs) tree S may old = elim may.0 [ ]
 decides v before s (Stored h f ss n ∷ xs) tree S may old = elim may.0 [ ]
 decides v before s (IsDown h ∷ xs) tree S may old = elim may.0 [ ]
+decides v before s (IsMoved move ∷ xs) tree S may old = elim may.0 [ ]
 
 causes : (c : Cause) (S : List Doing) → AllNeed S → AllNeed (after_cause c S)
 causes (Came m) S old = on S (Took m.host m.epoch m.moves m.body) (λ w e. cc) old
@@ -95,6 +97,7 @@ causes Flushed S old = on S Flushes (λ w e. cc) old
 causes (Line line) S old = old
 causes Lapse S old = old
 causes Evict S old = old
+causes (Freight freight) S old = old
 causes End S old = old
 
 admits : (cs : List Admission) (S : List Doing) → AllNeed S → AllNeed (appended (admitting cs) S)

@@ -26,9 +26,10 @@ use Rattle.run_rules.specs.Steps.{steps_of_host}
 use Rattle.run_rules.specs.declared.applied.Admission.{Admission}
 use Rattle.run_rules.specs.declared.applied.Applied.{Applied}
 use Rattle.run_rules.specs.declared.applied.Applied.TheVariants.{Done as IsDone, IsDown, Replied, Stored}
-use Rattle.run_rules.specs.declared.applied.Applied.TheVariants.{Wants as IsWanted}
+use Rattle.run_rules.specs.declared.applied.Applied.TheVariants.{Moves as IsMoved, Wants as IsWanted}
 use Rattle.run_rules.specs.declared.step.Cause.{Cause}
-use Rattle.run_rules.specs.declared.step.Cause.TheVariants.{End, Evict, Flushed, Lapse, Line, Message as Came, Restart}
+use Rattle.run_rules.specs.declared.step.Cause.TheVariants.{End, Evict, Flushed, Freight, Lapse}
+use Rattle.run_rules.specs.declared.step.Cause.TheVariants.{Line, Message as Came, Restart}
 use Rattle.run_rules.specs.declared.step.Step.{Step}
 use Rattle.run_tokens.proofs.Words.{acts_after, if_host, if_server, own_after}
 
@@ -51,6 +52,7 @@ epoch_deciding (IsDone w ∷ xs) S = epoch_deciding xs (WritesDown w ∷ S)
 epoch_deciding (Replied x ∷ xs) S = epoch_deciding xs S
 epoch_deciding (Stored h f ss n ∷ xs) S = epoch_deciding xs S
 epoch_deciding (IsDown h ∷ xs) S = epoch_deciding xs S
+epoch_deciding (IsMoved move ∷ xs) S = epoch_deciding xs S
 
 epoch_admitting : (cs : List Admission) (S : List Doing) → epoch (appended (admitting cs) S) ≡ epoch S
 epoch_admitting [] S = refl
@@ -74,6 +76,7 @@ epoch_caused Flushed S = omega arith
 epoch_caused (Line line) S = omega arith
 epoch_caused Lapse S = omega arith
 epoch_caused Evict S = omega arith
+epoch_caused (Freight freight) S = omega arith
 epoch_caused End S = omega arith
 
 pub epoch_after_cause : (s : Step) (S : List Doing) → epoch S ≤ epoch (after_cause s.cause S)
@@ -212,6 +215,7 @@ module _ (v : ServerId) (h : HostId) where
   causes (Line line) S old = old
   causes Lapse S old = old
   causes Evict S old = old
+  causes (Freight freight) S old = old
   causes End S old = old
 
   decides : (xs : List Applied) (S : List Doing) → Knows S → Knows (appended (deciding xs) S)
@@ -223,6 +227,7 @@ module _ (v : ServerId) (h : HostId) where
   decides (Replied x ∷ xs) S old = decides xs S old
   decides (Stored k f ss n ∷ xs) S old = decides xs S old
   decides (IsDown k ∷ xs) S old = decides xs S old
+  decides (IsMoved move ∷ xs) S old = decides xs S old
 
   admits_all : (cs : List Admission) (S : List Doing) → EachInTurn (ServerTokens v) (admitting cs) S → Knows S
       → Knows (appended (admitting cs) S)
@@ -296,6 +301,7 @@ module _ (h : HostId) (e n : ℕ) (b : Body) where
   took_deciding (Replied x ∷ xs) S o = took_deciding xs S o
   took_deciding (Stored k f ss m ∷ xs) S o = took_deciding xs S o
   took_deciding (IsDown k ∷ xs) S o = took_deciding xs S o
+  took_deciding (IsMoved move ∷ xs) S o = took_deciding xs S o
 
   pub took_admitting : (cs : List Admission) (S : List Doing) → TookIt (appended (admitting cs) S) h e n b
       → TookIt S h e n b
@@ -330,6 +336,7 @@ module _ (h : HostId) (e n : ℕ) (b : Body) where
   took_cause v past s S came (Line line) q o = inl o
   took_cause v past s S came Lapse q o = inl o
   took_cause v past s S came Evict q o = inl o
+  took_cause v past s S came (Freight freight) q o = inl o
   took_cause v past s S came End q o = inl o
 
   took_step : (v : ServerId) (past : List Step) (s : Step) (S : List Doing) → CameToServer v past s

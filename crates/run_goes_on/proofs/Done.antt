@@ -7,7 +7,8 @@ use Rattle.run_rules.specs.Messages.{ComesIn, HasBye}
 use Rattle.run_rules.specs.Runs.{past_of}
 use Rattle.run_rules.specs.Steps.{steps_of_host}
 use Rattle.run_rules.specs.declared.step.Cause.{Cause}
-use Rattle.run_rules.specs.declared.step.Cause.TheVariants.{End, Evict, Flushed, Lapse, Line, Message as Came, Restart}
+use Rattle.run_rules.specs.declared.step.Cause.TheVariants.{End, Evict, Flushed, Freight, Lapse}
+use Rattle.run_rules.specs.declared.step.Cause.TheVariants.{Line, Message as Came, Restart}
 use Rattle.run_rules.specs.declared.step.Step.{Step}
 use Rattle.run_goes_on.proofs.Leaving.{byes_are_answered}
 use Rattle.run_goes_on.proofs.Resting.{hosts_come_to_their_end, one}
@@ -35,6 +36,7 @@ module _ (v : ServerId) where
       go (Line line) is = inr (λ k. (let z : Line line ≡ Came k.2.0 = sym is ∙ k.2.1 in cc))
       go Lapse is = inr (λ k. (let z : Lapse ≡ Came k.2.0 = sym is ∙ k.2.1 in cc))
       go Evict is = inr (λ k. (let z : Evict ≡ Came k.2.0 = sym is ∙ k.2.1 in cc))
+      go (Freight freight) is = inr (λ k. (let z : Freight freight ≡ Came k.2.0 = sym is ∙ k.2.1 in cc))
       go End is = inr (λ k. (let z : End ≡ Came k.2.0 = sym is ∙ k.2.1 in cc))
 
   has_bye : (A : List Step) → HasBye A v ⊎ (HasBye A v → ⊥)

@@ -29,7 +29,8 @@ use Rattle.run_rules.specs.Steps.{goes_with, is_node, lines_gone, lines_of, serv
 use Rattle.run_rules.specs.Steps.{setup, steps_of_host, steps_of_server}
 use Rattle.run_rules.specs.declared.journal.Journal.{Journal}
 use Rattle.run_rules.specs.declared.step.Cause.{Cause}
-use Rattle.run_rules.specs.declared.step.Cause.TheVariants.{End, Evict, Flushed, Lapse, Line as LineOf, Message as Came}
+use Rattle.run_rules.specs.declared.step.Cause.TheVariants.{End, Evict, Flushed, Freight}
+use Rattle.run_rules.specs.declared.step.Cause.TheVariants.{Lapse, Line as LineOf, Message as Came}
 use Rattle.run_rules.specs.declared.step.Cause.TheVariants.{Restart}
 use Rattle.run_rules.specs.declared.step.Step.{Step}
 use Rattle.run_rules.specs.Past.{In}
@@ -138,6 +139,8 @@ module _ (script : Script) (v : ServerId) where
   line_by A s m Lapse e le =
       let goal : 0 + lines_gone A ≤ length (lines_of script (Server v)) = omega (arith, le) in goal
   line_by A s m Evict e le =
+      let goal : 0 + lines_gone A ≤ length (lines_of script (Server v)) = omega (arith, le) in goal
+  line_by A s m (Freight freight) e le =
       let goal : 0 + lines_gone A ≤ length (lines_of script (Server v)) = omega (arith, le) in goal
   line_by A s m End e le =
       let goal : 0 + lines_gone A ≤ length (lines_of script (Server v)) = omega (arith, le) in goal

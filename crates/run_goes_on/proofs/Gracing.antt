@@ -23,7 +23,8 @@ use Rattle.run_rules.specs.Runs.{CameToHost, IsFrom, StepDue, StepMeets, StepsMe
 use Rattle.run_rules.specs.ServerDue.{ServerDue}
 use Rattle.run_rules.specs.Steps.{steps_of_host, steps_of_server}
 use Rattle.run_rules.specs.declared.step.Cause.{Cause}
-use Rattle.run_rules.specs.declared.step.Cause.TheVariants.{End, Evict, Flushed, Lapse, Line, Message as Came, Restart}
+use Rattle.run_rules.specs.declared.step.Cause.TheVariants.{End, Evict, Flushed, Freight, Lapse}
+use Rattle.run_rules.specs.declared.step.Cause.TheVariants.{Line, Message as Came, Restart}
 use Rattle.run_rules.specs.declared.step.Step.{Step}
 use Rattle.run_tokens.proofs.Law.{Whole}
 use Rattle.run_tokens.proofs.Words.{acts_after, epoch_grows, if_server}
@@ -127,6 +128,7 @@ module _ (script : Script) (start : Tree) (firsts : ServerId → ℕ) (real : (v
       by (Line line) is was = stays (steady (Line line) is refl) was
       by Lapse is was = stays (steady Lapse is refl) was
       by Evict is was = stays (steady Evict is refl) was
+      by (Freight freight) is was = stays (steady (Freight freight) is refl) was
       by End is was = stays (steady End is refl) was
 
   told_at : (l p : List Step) → appended l p ≡ run → IsTold (acts p)

@@ -18,9 +18,10 @@ use Rattle.run_rules.specs.ServerTokens.{ServerStep, ServerTokens}
 use Rattle.run_rules.specs.declared.applied.Admission.{Admission}
 use Rattle.run_rules.specs.declared.applied.Applied.{Applied}
 use Rattle.run_rules.specs.declared.applied.Applied.TheVariants.{Done as IsDone, IsDown, Replied, Stored}
-use Rattle.run_rules.specs.declared.applied.Applied.TheVariants.{Wants as IsWanted}
+use Rattle.run_rules.specs.declared.applied.Applied.TheVariants.{Moves as IsMoved, Wants as IsWanted}
 use Rattle.run_rules.specs.declared.step.Cause.{Cause}
-use Rattle.run_rules.specs.declared.step.Cause.TheVariants.{End, Evict, Flushed, Lapse, Line, Message as Came, Restart}
+use Rattle.run_rules.specs.declared.step.Cause.TheVariants.{End, Evict, Flushed, Freight, Lapse}
+use Rattle.run_rules.specs.declared.step.Cause.TheVariants.{Line, Message as Came, Restart}
 use Rattle.run_rules.specs.declared.step.Step.{Step}
 use Rattle.run_goes_on.proofs.Grown.{in_admitting, in_deciding}
 use Rattle.run_goes_on.proofs.Positions.{once_on}
@@ -78,6 +79,7 @@ module _ (v : ServerId) (t : Token) (x : StayStamp) where
   keep_writes (Replied y ∷ xs) S T k = keep_writes xs S T k
   keep_writes (Stored h f ss n ∷ xs) S T k = keep_writes xs S T k
   keep_writes (IsDown h ∷ xs) S T k = keep_writes xs S T k
+  keep_writes (IsMoved move ∷ xs) S T k = keep_writes xs S T k
 
   keep_admits : (cs : List Admission) (S T : List Doing) → EachInTurn (ServerTokens v) (admitting cs) S
       → HasReclaimed S t.host → Issued S t x → Keeps (appended (admitting cs) S) T → Keeps S T
@@ -122,6 +124,7 @@ module _ (v : ServerId) (t : Token) (x : StayStamp) where
   keep_cause (Line line) S T k = k
   keep_cause Lapse S T k = k
   keep_cause Evict S T k = k
+  keep_cause (Freight freight) S T k = k
   keep_cause End S T k = k
 
 -- # A Revoke names granted tokens, which are granted after its step

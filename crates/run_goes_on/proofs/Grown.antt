@@ -18,11 +18,12 @@ use Rattle.run_rules.specs.ServerTokens.{MayAdmit, ServerTokens}
 use Rattle.run_rules.specs.declared.applied.Admission.{Admission}
 use Rattle.run_rules.specs.declared.applied.Applied.{Applied}
 use Rattle.run_rules.specs.declared.applied.Applied.TheVariants.{Done as IsDone, IsDown, Replied, Stored}
-use Rattle.run_rules.specs.declared.applied.Applied.TheVariants.{Wants as IsWanted}
+use Rattle.run_rules.specs.declared.applied.Applied.TheVariants.{Moves as IsMoved, Wants as IsWanted}
 use Rattle.run_rules.specs.declared.applied.Wanted.{Wanted}
 use Rattle.run_rules.specs.declared.applied.Written.{Written}
 use Rattle.run_rules.specs.declared.step.Cause.{Cause}
-use Rattle.run_rules.specs.declared.step.Cause.TheVariants.{End, Evict, Flushed, Lapse, Line, Message as Came, Restart}
+use Rattle.run_rules.specs.declared.step.Cause.TheVariants.{End, Evict, Flushed, Freight, Lapse}
+use Rattle.run_rules.specs.declared.step.Cause.TheVariants.{Line, Message as Came, Restart}
 use Rattle.run_rules.specs.declared.step.Step.{Step}
 use Rattle.run_tokens.proofs.Words.{acts_after, if_server}
 use Rattle.run_goes_on.proofs.Doings.{epoch_after_cause, epoch_after_step, epoch_on, epoch_step}
@@ -41,6 +42,7 @@ module _ (Q : List Doing → Type 0) (one : (S : List Doing) (a : Doing) → Q S
   cause_each (Line line) S q = q
   cause_each Lapse S q = q
   cause_each Evict S q = q
+  cause_each (Freight freight) S q = q
   cause_each End S q = q
 
   pub caused_on : (s : Step) (S : List Doing) → Q (after_cause s.cause S) → Q (after_step s S)
@@ -88,6 +90,7 @@ module _ (P : List Doing → Doing → Type 0) where
   in_deciding (Replied y ∷ xs) S x = in_deciding xs S x
   in_deciding (Stored h f ss n ∷ xs) S x = in_deciding xs S x
   in_deciding (IsDown h ∷ xs) S x = in_deciding xs S x
+  in_deciding (IsMoved move ∷ xs) S x = in_deciding xs S x
 
   pub in_admitting : (cs : List Admission) (S : List Doing) → InEpoch P S → InEpoch P (appended (admitting cs) S)
   in_admitting [] S x = x
@@ -118,6 +121,7 @@ module _ (P : List Doing → Doing → Type 0) where
   in_cause (Line line) S same x = x
   in_cause Lapse S same x = x
   in_cause Evict S same x = x
+  in_cause (Freight freight) S same x = x
   in_cause End S same x = x
 
   -- # What no want, no Change that is written down, makes so was so before those
@@ -136,6 +140,7 @@ module _ (P : List Doing → Doing → Type 0) where
     back_deciding (Replied y ∷ xs) S x = back_deciding xs S x
     back_deciding (Stored h f ss n ∷ xs) S x = back_deciding xs S x
     back_deciding (IsDown h ∷ xs) S x = back_deciding xs S x
+    back_deciding (IsMoved move ∷ xs) S x = back_deciding xs S x
 
   -- what no admission makes so was so before those
   pub back_admitting : ((S : List Doing) (h : HostId) (ts : List Token) → P S (Admits h ts) → ⊥)
@@ -238,6 +243,7 @@ module _ (P : List Doing → Doing → Type 0) (takes : IsTaking P) where
   once_deciding (Replied y ∷ xs) S x = once_deciding xs S x
   once_deciding (Stored h f ss n ∷ xs) S x = once_deciding xs S x
   once_deciding (IsDown h ∷ xs) S x = once_deciding xs S x
+  once_deciding (IsMoved move ∷ xs) S x = once_deciding xs S x
 
   once_admitting : (cs : List Admission) (S : List Doing) → Once P (appended (admitting cs) S) → Once P S
   once_admitting [] S x = x
@@ -325,6 +331,7 @@ module _ (h : HostId) where
   reclaims_cause (Line line) S l r = r
   reclaims_cause Lapse S l r = r
   reclaims_cause Evict S l r = r
+  reclaims_cause (Freight freight) S l r = r
   reclaims_cause End S l r = r
 
 -- of each admission of a step: what it may admit, after those before it
@@ -352,6 +359,7 @@ module _ (h : HostId) (e n : ℕ) (b : Body) where
   sent_deciding (Replied x ∷ xs) S o = sent_deciding xs S o
   sent_deciding (Stored k f ss m ∷ xs) S o = sent_deciding xs S o
   sent_deciding (IsDown k ∷ xs) S o = sent_deciding xs S o
+  sent_deciding (IsMoved move ∷ xs) S o = sent_deciding xs S o
 
   sent_admitting : (cs : List Admission) (S : List Doing) → SentTo (appended (admitting cs) S) h e n b
       → SentTo S h e n b
@@ -386,6 +394,7 @@ module _ (h : HostId) (e n : ℕ) (b : Body) where
   sent_cause (Line line) S o = o
   sent_cause Lapse S o = o
   sent_cause Evict S o = o
+  sent_cause (Freight freight) S o = o
   sent_cause End S o = o
 
   -- it was sent before the step, or the step sends it
@@ -414,6 +423,7 @@ module _ (h : HostId) where
   listed_deciding (Replied y ∷ xs) S x = listed_deciding xs S x
   listed_deciding (Stored k f ss n ∷ xs) S x = listed_deciding xs S x
   listed_deciding (IsDown k ∷ xs) S x = listed_deciding xs S x
+  listed_deciding (IsMoved move ∷ xs) S x = listed_deciding xs S x
 
   pub listed_admitting : (cs : List Admission) (S : List Doing) → Listed (appended (admitting cs) S) h → Listed S h
   listed_admitting [] S x = x
@@ -441,6 +451,7 @@ module _ (h : HostId) where
   listed_cause (Line line) S k = inl k
   listed_cause Lapse S k = inl k
   listed_cause Evict S k = inl k
+  listed_cause (Freight freight) S k = inl k
   listed_cause End S k = inl k
 
   pub listed_step : (s : Step) (S : List Doing) → Listed (after_step s S) h

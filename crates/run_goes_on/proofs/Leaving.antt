@@ -24,7 +24,8 @@ use Rattle.run_rules.specs.Runs.{IsFrom, StepDue, StepMeets, StepsMeet, firsts_o
 use Rattle.run_rules.specs.ServerDue.{ServerDue}
 use Rattle.run_rules.specs.Steps.{steps_of_host, steps_of_server}
 use Rattle.run_rules.specs.declared.step.Cause.{Cause}
-use Rattle.run_rules.specs.declared.step.Cause.TheVariants.{End, Evict, Flushed, Lapse, Line, Message as Came, Restart}
+use Rattle.run_rules.specs.declared.step.Cause.TheVariants.{End, Evict, Flushed, Freight, Lapse}
+use Rattle.run_rules.specs.declared.step.Cause.TheVariants.{Line, Message as Came, Restart}
 use Rattle.run_rules.specs.declared.step.Step.{Step}
 use Rattle.run_tokens.proofs.Law.{Whole}
 use Rattle.run_tokens.proofs.Words.{acts_after, if_host, if_server, own_after}
@@ -241,6 +242,7 @@ module _ (script : Script) (start : Tree) (firsts : ServerId → ℕ) (real : (v
         by (Line line) is old = stays old
         by Lapse is old = stays old
         by Evict is old = stays old
+        by (Freight freight) is old = stays old
         by End is old = stays old
 
     stays_from : (l p : List Step) → IsAfter l p → (HasGoneAway (acts p) host → ⊥)

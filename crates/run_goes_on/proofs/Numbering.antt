@@ -28,13 +28,14 @@ use Rattle.run_rules.specs.Wants.{IsQueued, body_of}
 use Rattle.run_rules.specs.declared.applied.Admission.{Admission}
 use Rattle.run_rules.specs.declared.applied.Applied.{Applied}
 use Rattle.run_rules.specs.declared.applied.Applied.TheVariants.{Done as IsDone, IsDown, Replied, Stored}
-use Rattle.run_rules.specs.declared.applied.Applied.TheVariants.{Wants as IsWanted}
+use Rattle.run_rules.specs.declared.applied.Applied.TheVariants.{Moves as IsMoved, Wants as IsWanted}
 use Rattle.run_rules.specs.declared.applied.Request.{Request}
 use Rattle.run_rules.specs.declared.applied.Request.TheVariants.{Change as Changes}
 use Rattle.run_rules.specs.declared.applied.Wanted.{Wanted}
 use Rattle.run_rules.specs.declared.applied.Written.{Written}
 use Rattle.run_rules.specs.declared.step.Cause.{Cause}
-use Rattle.run_rules.specs.declared.step.Cause.TheVariants.{End, Evict, Flushed, Lapse, Line, Message as Came, Restart}
+use Rattle.run_rules.specs.declared.step.Cause.TheVariants.{End, Evict, Flushed, Freight, Lapse}
+use Rattle.run_rules.specs.declared.step.Cause.TheVariants.{Line, Message as Came, Restart}
 use Rattle.run_rules.specs.declared.step.Step.{Step}
 use Rattle.run_contents.proofs.Grants.{all_taken}
 use Rattle.run_examples.proofs.Words.{moved}
@@ -110,6 +111,10 @@ module _ (h : HostId) (fs : FilesetId) (k : ℕ) where
     | inl old ↦ inl old
     | inr x ↦ inr (x.0, inr x.1, x.2, x.3, x.4)
   ]
+  written_deciding (IsMoved move ∷ xs) S o = elim (written_deciding xs S o) [
+    | inl old ↦ inl old
+    | inr x ↦ inr (x.0, inr x.1, x.2, x.3, x.4)
+  ]
 
   written_admitting : (cs : List Admission) (S : List Doing) → WasWritten (appended (admitting cs) S) h fs k
       → WasWritten S h fs k
@@ -138,6 +143,7 @@ module _ (h : HostId) (fs : FilesetId) (k : ℕ) where
   written_cause (Line line) S o = o
   written_cause Lapse S o = o
   written_cause Evict S o = o
+  written_cause (Freight freight) S o = o
   written_cause End S o = o
 
   written_split : (s : Step) (S : List Doing) → WasWritten (after_step s S) h fs k

@@ -37,7 +37,8 @@ use Rattle.run_rules.specs.Steps.{steps_of_host, steps_of_server}
 use Rattle.run_rules.specs.Tokens.{EverHeld, Held, HoldsId, IsKnown, IsUseKind, LabelInUse, Made, Owns, TokenInUse}
 use Rattle.run_rules.specs.Tokens.{number_of}
 use Rattle.run_rules.specs.declared.step.Cause.{Cause}
-use Rattle.run_rules.specs.declared.step.Cause.TheVariants.{End, Evict, Flushed, Lapse, Line, Message as Came, Restart}
+use Rattle.run_rules.specs.declared.step.Cause.TheVariants.{End, Evict, Flushed, Freight, Lapse}
+use Rattle.run_rules.specs.declared.step.Cause.TheVariants.{Line, Message as Came, Restart}
 use Rattle.run_rules.specs.declared.step.Labelled.{Labelled}
 use Rattle.run_rules.specs.declared.step.Step.{Step}
 use Rattle.run_tokens.proofs.Law.{Whole}
@@ -103,6 +104,7 @@ module _ (t : Token) where
   asks_cause (Line line) S x = (x, refl)
   asks_cause Lapse S x = (x, refl)
   asks_cause Evict S x = (x, refl)
+  asks_cause (Freight freight) S x = (x, refl)
   asks_cause End S x = (x, refl)
 
 -- # A label in use is of a token that was taken, of a lock or an open file

@@ -20,12 +20,13 @@ use Rattle.run_rules.specs.Wants.{CannotBothWait, IsQueued, IsQueuedBefore, Unwa
 use Rattle.run_rules.specs.declared.applied.Admission.{Admission}
 use Rattle.run_rules.specs.declared.applied.Applied.{Applied}
 use Rattle.run_rules.specs.declared.applied.Applied.TheVariants.{Done as IsDone, IsDown, Replied, Stored}
-use Rattle.run_rules.specs.declared.applied.Applied.TheVariants.{Wants as IsWanted}
+use Rattle.run_rules.specs.declared.applied.Applied.TheVariants.{Moves as IsMoved, Wants as IsWanted}
 use Rattle.run_rules.specs.declared.applied.Request.{Request}
 use Rattle.run_rules.specs.declared.applied.Request.TheVariants.{Change as Changes, Fetch as Asks}
 use Rattle.run_rules.specs.declared.applied.Wanted.{Wanted}
 use Rattle.run_rules.specs.declared.step.Cause.{Cause}
-use Rattle.run_rules.specs.declared.step.Cause.TheVariants.{End, Evict, Flushed, Lapse, Line, Message as Came, Restart}
+use Rattle.run_rules.specs.declared.step.Cause.TheVariants.{End, Evict, Flushed, Freight, Lapse}
+use Rattle.run_rules.specs.declared.step.Cause.TheVariants.{Line, Message as Came, Restart}
 use Rattle.run_rules.specs.declared.step.Step.{Step}
 use Rattle.run_contents.proofs.Grants.{same_decisions}
 use Rattle.run_tokens.proofs.Words.{acts_after, if_server}
@@ -89,6 +90,7 @@ causes Flushed S old = on S Flushes (λ w e. absurd (cc)) old
 causes (Line line) S old = old
 causes Lapse S old = old
 causes Evict S old = old
+causes (Freight freight) S old = old
 causes End S old = old
 
 decides : (v : ServerId) (before : List Doing) (s : Step) (xs : List Applied) (tree : Tree) (S : List Doing)
@@ -103,6 +105,7 @@ decides v before s (IsDone x ∷ xs) tree S may old =
 decides v before s (Replied x ∷ xs) tree S may old = elim may.0 [ ]
 decides v before s (Stored h f ss n ∷ xs) tree S may old = elim may.0 [ ]
 decides v before s (IsDown h ∷ xs) tree S may old = elim may.0 [ ]
+decides v before s (IsMoved move ∷ xs) tree S may old = elim may.0 [ ]
 
 admits : (cs : List Admission) (S : List Doing) → MadeNew S → MadeNew (appended (admitting cs) S)
 admits [] S old = old

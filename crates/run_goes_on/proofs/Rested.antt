@@ -31,13 +31,14 @@ use Rattle.run_rules.specs.Wants.{IsQueued, body_of}
 use Rattle.run_rules.specs.declared.applied.Admission.{Admission}
 use Rattle.run_rules.specs.declared.applied.Applied.{Applied}
 use Rattle.run_rules.specs.declared.applied.Applied.TheVariants.{Done as IsDone, IsDown, Replied, Stored}
-use Rattle.run_rules.specs.declared.applied.Applied.TheVariants.{Wants as IsWanted}
+use Rattle.run_rules.specs.declared.applied.Applied.TheVariants.{Moves as IsMoved, Wants as IsWanted}
 use Rattle.run_rules.specs.declared.applied.Request.{Request}
 use Rattle.run_rules.specs.declared.applied.Request.TheVariants.{Change as Changes, Fetch as Asks}
 use Rattle.run_rules.specs.declared.applied.Wanted.{Wanted}
 use Rattle.run_rules.specs.declared.journal.Journal.{Journal}
 use Rattle.run_rules.specs.declared.step.Cause.{Cause}
-use Rattle.run_rules.specs.declared.step.Cause.TheVariants.{End, Evict, Flushed, Lapse, Line as LineOf, Message as Came}
+use Rattle.run_rules.specs.declared.step.Cause.TheVariants.{End, Evict, Flushed, Freight}
+use Rattle.run_rules.specs.declared.step.Cause.TheVariants.{Lapse, Line as LineOf, Message as Came}
 use Rattle.run_rules.specs.declared.step.Cause.TheVariants.{Restart}
 use Rattle.run_rules.specs.declared.step.Labelled.{Labelled}
 use Rattle.run_rules.specs.declared.step.Step.{Step}
@@ -128,6 +129,7 @@ module _ (v : ServerId) (before : List Doing) (s : Step) where
   decides (Replied x ∷ xs) tree S may here old = elim may.0 [ ]
   decides (Stored h f ss n ∷ xs) tree S may here old = elim may.0 [ ]
   decides (IsDown h ∷ xs) tree S may here old = elim may.0 [ ]
+  decides (IsMoved move ∷ xs) tree S may here old = elim may.0 [ ]
 
 causes : (c : Cause) (S : List Doing) → AllHere S → AllHere (after_cause c S)
 causes (Came m) S old = on S (Took m.host m.epoch m.moves m.body) (λ w e. cc) old
@@ -136,6 +138,7 @@ causes Flushed S old = on S Flushes (λ w e. cc) old
 causes (LineOf line) S old = old
 causes Lapse S old = old
 causes Evict S old = old
+causes (Freight freight) S old = old
 causes End S old = old
 
 admits : (cs : List Admission) (S : List Doing) → AllHere S → AllHere (appended (admitting cs) S)

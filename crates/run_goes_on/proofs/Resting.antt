@@ -20,7 +20,8 @@ use Rattle.run_rules.specs.Steps.{goes_with, lines_gone, lines_of, setup, steps_
 use Rattle.run_rules.specs.Tokens.{NoneOpen}
 use Rattle.run_rules.specs.declared.journal.Journal.{Journal}
 use Rattle.run_rules.specs.declared.step.Cause.{Cause}
-use Rattle.run_rules.specs.declared.step.Cause.TheVariants.{End, Evict, Flushed, Lapse, Line as LineOf, Message as Came}
+use Rattle.run_rules.specs.declared.step.Cause.TheVariants.{End, Evict, Flushed, Freight}
+use Rattle.run_rules.specs.declared.step.Cause.TheVariants.{Lapse, Line as LineOf, Message as Came}
 use Rattle.run_rules.specs.declared.step.Cause.TheVariants.{Restart}
 use Rattle.run_rules.specs.declared.step.Step.{Step}
 use Rattle.run_goes_on.proofs.Arriving.{what_waits_has_come}
@@ -146,6 +147,8 @@ module _ (script : Script) (host : HostId) where
   gone_by A s m Lapse e le =
       let goal : 0 + lines_gone A ≤ length (lines_of script (Host host)) = omega (arith, le) in goal
   gone_by A s m Evict e le =
+      let goal : 0 + lines_gone A ≤ length (lines_of script (Host host)) = omega (arith, le) in goal
+  gone_by A s m (Freight freight) e le =
       let goal : 0 + lines_gone A ≤ length (lines_of script (Host host)) = omega (arith, le) in goal
   gone_by A s m End e le =
       let goal : 0 + lines_gone A ≤ length (lines_of script (Host host)) = omega (arith, le) in goal

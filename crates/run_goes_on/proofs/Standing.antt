@@ -40,13 +40,14 @@ use Rattle.run_rules.specs.Wants.{CannotBothWait, IsOld, IsQueued, Unwants, body
 use Rattle.run_rules.specs.declared.applied.Admission.{Admission}
 use Rattle.run_rules.specs.declared.applied.Applied.{Applied}
 use Rattle.run_rules.specs.declared.applied.Applied.TheVariants.{Done as IsDone, IsDown, Replied, Stored}
-use Rattle.run_rules.specs.declared.applied.Applied.TheVariants.{Wants as IsWanted}
+use Rattle.run_rules.specs.declared.applied.Applied.TheVariants.{Moves as IsMoved, Wants as IsWanted}
 use Rattle.run_rules.specs.declared.applied.Request.{Request}
 use Rattle.run_rules.specs.declared.applied.Request.TheVariants.{Change as Changes}
 use Rattle.run_rules.specs.declared.applied.Wanted.{Wanted}
 use Rattle.run_rules.specs.declared.applied.Written.{Written}
 use Rattle.run_rules.specs.declared.step.Cause.{Cause}
-use Rattle.run_rules.specs.declared.step.Cause.TheVariants.{End, Evict, Flushed, Lapse, Line, Message as Came, Restart}
+use Rattle.run_rules.specs.declared.step.Cause.TheVariants.{End, Evict, Flushed, Freight, Lapse}
+use Rattle.run_rules.specs.declared.step.Cause.TheVariants.{Line, Message as Came, Restart}
 use Rattle.run_rules.specs.declared.step.Step.{Step}
 use Rattle.run_contents.proofs.Grants.{all_taken, same_decisions}
 use Rattle.run_history.proofs.Waiting.{fresh_now, still_changing}
@@ -83,6 +84,7 @@ decided_applied (IsDone w ∷ xs) y i = i
 decided_applied (Replied x ∷ xs) y i = inr (decided_applied xs y i)
 decided_applied (Stored h f ss n ∷ xs) y i = inr (decided_applied xs y i)
 decided_applied (IsDown h ∷ xs) y i = inr (decided_applied xs y i)
+decided_applied (IsMoved move ∷ xs) y i = inr (decided_applied xs y i)
 
 want_decided : (xs : List Applied) (w : Wanted) → In (IsWanted w) xs → In (IsWanted w) (decisions xs)
 want_decided [] w i = i
@@ -93,7 +95,9 @@ want_decided (Replied x ∷ xs) w (inr i) = want_decided xs w i
 want_decided (Stored h f ss n ∷ xs) w (inl e) = absurd (let z : IsWanted w ≡ Stored h f ss n = e in cc)
 want_decided (Stored h f ss n ∷ xs) w (inr i) = want_decided xs w i
 want_decided (IsDown h ∷ xs) w (inl e) = absurd (let z : IsWanted w ≡ IsDown h = e in cc)
+want_decided (IsMoved move ∷ xs) w (inl e) = absurd (let z : IsWanted w ≡ IsMoved move = e in cc)
 want_decided (IsDown h ∷ xs) w (inr i) = want_decided xs w i
+want_decided (IsMoved move ∷ xs) w (inr i) = want_decided xs w i
 
 -- the Done of what was written down
 has_written : (h : HostId) (fs : FilesetId) (k : ℕ) (S : List Doing) → WasWritten S h fs k
@@ -483,6 +487,7 @@ module _ (script : Script) (start : Tree) (firsts : ServerId → ℕ) (real : (v
       keep_cause (Line line) is has = has
       keep_cause Lapse is has = has
       keep_cause Evict is has = has
+      keep_cause (Freight freight) is has = has
       keep_cause End is has = has
 
       -- a want that is made in its place is one of it
@@ -553,6 +558,7 @@ module _ (script : Script) (start : Tree) (firsts : ServerId → ℕ) (real : (v
       keep_decides (Replied y ∷ xs) tree T may is has = elim may.0 [ ]
       keep_decides (Stored j f ss k ∷ xs) tree T may is has = elim may.0 [ ]
       keep_decides (IsDown j ∷ xs) tree T may is has = elim may.0 [ ]
+      keep_decides (IsMoved move ∷ xs) tree T may is has = elim may.0 [ ]
 
       -- one that is made there is one
       made_decides : (xs : List Applied) (tree : Tree) (T : List Doing) → MayDecideAll v tree S T t xs
@@ -576,6 +582,7 @@ module _ (script : Script) (start : Tree) (firsts : ServerId → ℕ) (real : (v
       made_decides (Replied y ∷ xs) tree T may is w i h same = elim may.0 [ ]
       made_decides (Stored j f ss k ∷ xs) tree T may is w i h same = elim may.0 [ ]
       made_decides (IsDown j ∷ xs) tree T may is w i h same = elim may.0 [ ]
+      made_decides (IsMoved move ∷ xs) tree T may is w i h same = elim may.0 [ ]
 
       keep_admits : (cs : List Admission) (T : List Doing) → HasOne T → HasOne (appended (admitting cs) T)
       keep_admits [] T has = has

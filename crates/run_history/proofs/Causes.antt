@@ -16,7 +16,7 @@ use Rattle.run_rules.specs.Tokens.{number_of}
 use Rattle.run_rules.specs.declared.applied.Applied.TheVariants.{IsDown}
 use Rattle.run_rules.specs.declared.applied.Applied.{Applied}
 use Rattle.run_rules.specs.declared.step.Cause.{Cause}
-use Rattle.run_rules.specs.declared.step.Cause.TheVariants.{End, Evict, Flushed, Lapse, Line, Message as Came}
+use Rattle.run_rules.specs.declared.step.Cause.TheVariants.{End, Evict, Flushed, Freight, Lapse, Line, Message as Came}
 use Rattle.run_rules.specs.declared.step.Cause.TheVariants.{Restart}
 use Rattle.run_rules.specs.declared.step.Step.{Step}
 
@@ -110,4 +110,5 @@ module _ (v : ServerId) (S : List Doing) (K : Tree) (s : Step) (k : ServerApplie
       go (x ∷ xs) e Flushed q = none Flushed q (λ m q. cc)
       go (x ∷ xs) e Lapse q = none Lapse q (λ m q. cc)
       go (x ∷ xs) e Evict q = none Evict q (λ m q. cc)
+      go (x ∷ xs) e (Freight freight) q = none (Freight freight) q (λ m q. cc)
       go (x ∷ xs) e End q = none End q (λ m q. cc)

@@ -69,7 +69,7 @@ use Rattle.run_contents.specs.Instance.{IsOfRun}
 use Rattle.run_tokens.proofs.Words.{made_at}
 use Rattle.run_rules.specs.declared.applied.Applied.{Applied}
 use Rattle.run_rules.specs.declared.step.Cause.{Cause}
-use Rattle.run_rules.specs.declared.step.Cause.TheVariants.{End, Evict, Flushed, Lapse, Line, Message as Came}
+use Rattle.run_rules.specs.declared.step.Cause.TheVariants.{End, Evict, Flushed, Freight, Lapse, Line, Message as Came}
 use Rattle.run_rules.specs.declared.step.Cause.TheVariants.{Restart}
 use Rattle.run_rules.specs.declared.step.Step.{Step}
 
@@ -159,6 +159,7 @@ module _ (v : ServerId) (S : List Doing) (tree : Tree) (s : Step) (k : ServerApp
       go Flushed e = none Flushed e (λ m q. cc)
       go Lapse e = none Lapse e (λ m q. cc)
       go Evict e = none Evict e (λ m q. cc)
+      go (Freight freight) e = none (Freight freight) e (λ m q. cc)
       go End e = none End e (λ m q. cc)
 
   -- a give-back that is stored is applied for the first time

@@ -22,7 +22,7 @@ use Rattle.run_rules.specs.Runs.{IsRun, StepMeets, StepsMeet, firsts_of, past_of
 use Rattle.run_rules.specs.ServerDecides.{IsWrittenSo, MayDecideAll, by_cause, decisions}
 use Rattle.run_rules.specs.Steps.{steps_of_host, steps_of_server}
 use Rattle.run_rules.specs.declared.applied.Applied.TheVariants.{Done as IsDone, IsDown, Replied, Stored}
-use Rattle.run_rules.specs.declared.applied.Applied.TheVariants.{Wants as IsWanted}
+use Rattle.run_rules.specs.declared.applied.Applied.TheVariants.{Moves as IsMoved, Wants as IsWanted}
 use Rattle.run_history.proofs.Deciding.{legal_change}
 use Rattle.run_history.proofs.Instance.{contents_of, is_of_run}
 use Rattle.run_history.specs.Changes.{AgreesKept, DecidesLegally, EachChange, IsLegalChange, IsMeant}
@@ -62,6 +62,8 @@ each_map P Q cause to (Replied x ∷ xs) K S all = each_map P Q cause to xs (fil
 each_map P Q cause to (Stored h f ss n ∷ xs) K S all =
     each_map P Q cause to xs (filesets_after cause K (Stored h f ss n)) S all
 each_map P Q cause to (IsDown h ∷ xs) K S all = each_map P Q cause to xs (filesets_after cause K (IsDown h)) S all
+each_map P Q cause to (IsMoved move ∷ xs) K S all =
+    each_map P Q cause to xs (filesets_after cause K (IsMoved move)) S all
 
 pub each_both : (P Q : List Doing → Tree → Written → Type 0) (cause : Cause) (xs : List Applied) (K : Tree) (S : List Doing)
     → EachChange P cause K S xs → EachChange Q cause K S xs → EachChange (λ S K x. P S K x × Q S K x) cause K S xs
@@ -74,6 +76,7 @@ each_both P Q cause (Replied x ∷ xs) K S a b = each_both P Q cause xs (fileset
 each_both P Q cause (Stored h f ss n ∷ xs) K S a b =
     each_both P Q cause xs (filesets_after cause K (Stored h f ss n)) S a b
 each_both P Q cause (IsDown h ∷ xs) K S a b = each_both P Q cause xs (filesets_after cause K (IsDown h)) S a b
+each_both P Q cause (IsMoved move ∷ xs) K S a b = each_both P Q cause xs (filesets_after cause K (IsMoved move)) S a b
 
 module _ (script : Script) (start : Tree) (firsts : ServerId → ℕ) (past : List Step)
     (run : StepsMeet script start firsts past) (v : ServerId) (s : Step)
@@ -122,6 +125,7 @@ module _ (script : Script) (start : Tree) (firsts : ServerId → ℕ) (past : Li
   decides (Replied x ∷ xs) S0 S K may k taken heard said good = elim may.0 [ ]
   decides (Stored h f ss n ∷ xs) S0 S K may k taken heard said good = elim may.0 [ ]
   decides (IsDown h ∷ xs) S0 S K may k taken heard said good = elim may.0 [ ]
+  decides (IsMoved move ∷ xs) S0 S K may k taken heard said good = elim may.0 [ ]
 
   abbrev Decides : (List Doing → Tree → Written → Type 0) → Type 0
   Decides Holds =

@@ -53,7 +53,7 @@ use Rattle.run_rules.specs.ServerDecides.{is_decision}
 use Rattle.run_rules.specs.Steps.{steps_of_server}
 use Rattle.run_rules.specs.Wants.{is_use}
 use Rattle.run_rules.specs.declared.applied.Applied.TheVariants.{Done as IsDone, IsDown, Replied, Stored}
-use Rattle.run_rules.specs.declared.applied.Applied.TheVariants.{Wants as IsWanted}
+use Rattle.run_rules.specs.declared.applied.Applied.TheVariants.{Moves as IsMoved, Wants as IsWanted}
 use Rattle.run_history.proofs.Keeping.{homes_of, is_its, same_keeps}
 use Rattle.run_history.specs.PastStanding.{KeepsAs}
 use Rattle.run_parts.specs.Cells.{cell_after}
@@ -342,3 +342,4 @@ module _ (script : Script) (start : Tree) (c : Contents) (past : List Step) (v :
   all_changes (Replied a ∷ xs) before K cells old t all fits granted m labels = absurd (false≢true all)
   all_changes (Stored h f spans n ∷ xs) before K cells old t all fits granted m labels = absurd (false≢true all)
   all_changes (IsDown h ∷ xs) before K cells old t all fits granted m labels = absurd (false≢true all)
+  all_changes (IsMoved move ∷ xs) before K cells old t all fits granted m labels = absurd (false≢true all)

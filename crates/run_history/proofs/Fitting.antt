@@ -23,7 +23,7 @@ use Rattle.run_rules.specs.ServerDecides.DecidedSo.{IsRefusedByTable, MeetsPinne
 use Rattle.run_rules.specs.Steps.{steps_of_host, steps_of_server}
 use Rattle.run_rules.specs.Wants.{is_use}
 use Rattle.run_rules.specs.declared.applied.Applied.TheVariants.{Done as IsDone, IsDown, Replied, Stored}
-use Rattle.run_rules.specs.declared.applied.Applied.TheVariants.{Wants as IsWanted}
+use Rattle.run_rules.specs.declared.applied.Applied.TheVariants.{Moves as IsMoved, Wants as IsWanted}
 use Rattle.run_history.proofs.ChangeLaw.{each_both}
 use Rattle.run_history.specs.Changes.{AgreesKept, EachChange, IsLegalChange}
 use Rattle.run_history.proofs.Decisions.{Fits, GoesHere}
@@ -55,6 +55,8 @@ each_map P Q cause ys to K S (Replied a ∷ xs) within p =
 each_map P Q cause ys to K S (Stored h f spans n ∷ xs) within p =
     each_map P Q cause ys to (filesets_after cause K (Stored h f spans n)) S xs (λ a i. within a (inr i)) p
 each_map P Q cause ys to K S (IsDown h ∷ xs) within p =
+    each_map P Q cause ys to K S xs (λ a i. within a (inr i)) p
+each_map P Q cause ys to K S (IsMoved move ∷ xs) within p =
     each_map P Q cause ys to K S xs (λ a i. within a (inr i)) p
 
 -- what is decided is applied
@@ -114,6 +116,7 @@ module _ (script : Script) (start : Tree) (firsts : ServerId → ℕ) (past : Li
   sounds (Replied x ∷ xs) S0 S K may taken heard said = elim may.0 [ ]
   sounds (Stored h f ss n ∷ xs) S0 S K may taken heard said = elim may.0 [ ]
   sounds (IsDown h ∷ xs) S0 S K may taken heard said = elim may.0 [ ]
+  sounds (IsMoved move ∷ xs) S0 S K may taken heard said = elim may.0 [ ]
 
   module _ (m : StepMeets script start firsts (Server v) past s) (c : Contents) (Labels : Tree → Type 0)
       (labels_same : (a b : Tree) → a.locks ≡ b.locks → a.opens ≡ b.opens → Labels a → Labels b) where

@@ -36,7 +36,7 @@ use Rattle.run_rules.specs.ServerDecides.{by_cause, decisions}
 use Rattle.run_rules.specs.Steps.{is_node, steps_of_server}
 use Rattle.run_rules.specs.Wants.{moves_fileset}
 use Rattle.run_rules.specs.declared.applied.Applied.TheVariants.{Done as IsDone, IsDown, Replied, Stored}
-use Rattle.run_rules.specs.declared.applied.Applied.TheVariants.{Wants as IsWanted}
+use Rattle.run_rules.specs.declared.applied.Applied.TheVariants.{Moves as IsMoved, Wants as IsWanted}
 use Rattle.run_tokens.proofs.Words.{if_server}
 use Rattle.run_rules.specs.declared.applied.Applied.{Applied}
 use Rattle.run_rules.specs.declared.applied.Written.{Written}
@@ -117,6 +117,7 @@ cause_unmoved cause (Stored h f ss n ∷ xs) K e =
     cause_unmoved cause xs (tree_given K f (pieces_in cause) n) (given_unmoved K f (pieces_in cause) n e)
 cause_unmoved cause (Replied x ∷ xs) K e = cause_unmoved cause xs K e
 cause_unmoved cause (IsDown h ∷ xs) K e = cause_unmoved cause xs K e
+cause_unmoved cause (IsMoved move ∷ xs) K e = cause_unmoved cause xs K e
 cause_unmoved cause (IsWanted x ∷ xs) K e = e
 cause_unmoved cause (IsDone x ∷ xs) K e = e
 
@@ -132,6 +133,7 @@ decided_unmoved v cause (Stored h f ss n ∷ xs) S K meant e =
     (given_unmoved K f (pieces_in cause) n e)
 decided_unmoved v cause (Replied x ∷ xs) S K meant e = decided_unmoved v cause xs S K meant e
 decided_unmoved v cause (IsDown h ∷ xs) S K meant e = decided_unmoved v cause xs S K meant e
+decided_unmoved v cause (IsMoved move ∷ xs) S K meant e = decided_unmoved v cause xs S K meant e
 
 -- what servers keep
 module _ (start : Tree) (firsts : ServerId → ℕ) (first : Unmoved start) where

@@ -46,7 +46,7 @@ use Rattle.run_rules.specs.ServerDecides.DecidedSo.{IsRefusedByTable, MeetsPinne
 use Rattle.run_rules.specs.Steps.{is_node, steps_of_server}
 use Rattle.run_rules.specs.Wants.{CanRefuse, asker, body_of, has_effect, is_use, moves_fileset, row_needs}
 use Rattle.run_rules.specs.declared.applied.Applied.TheVariants.{Done as IsDone, IsDown, Replied, Stored}
-use Rattle.run_rules.specs.declared.applied.Applied.TheVariants.{Wants as IsWanted}
+use Rattle.run_rules.specs.declared.applied.Applied.TheVariants.{Moves as IsMoved, Wants as IsWanted}
 use Rattle.run_history.specs.Changes.{AgreesKept, EachChange, IsLegalChange, are_home}
 use Rattle.run_parts.specs.Cells.{cell_after}
 use Rattle.run_parts.specs.Cells.Does.{Nothing}
@@ -260,6 +260,7 @@ cause_away cause (Stored h f ss n ∷ xs) K e =
     cause_away cause xs (tree_given K f (pieces_in cause) n) (given_away K f (pieces_in cause) n ∙ e)
 cause_away cause (Replied x ∷ xs) K e = cause_away cause xs K e
 cause_away cause (IsDown h ∷ xs) K e = cause_away cause xs K e
+cause_away cause (IsMoved move ∷ xs) K e = cause_away cause xs K e
 cause_away cause (IsWanted x ∷ xs) K e = e
 cause_away cause (IsDone x ∷ xs) K e = e
 

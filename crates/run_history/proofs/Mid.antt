@@ -17,7 +17,7 @@ use Rattle.run_rules.specs.Runs.{StepMeets, StepsMeet}
 use Rattle.run_rules.specs.ServerDecides.{MayDecideAll, by_cause, decisions}
 use Rattle.run_rules.specs.Steps.{steps_of_host, steps_of_server}
 use Rattle.run_rules.specs.declared.applied.Applied.TheVariants.{Done as IsDone, IsDown, Replied, Stored}
-use Rattle.run_rules.specs.declared.applied.Applied.TheVariants.{Wants as IsWanted}
+use Rattle.run_rules.specs.declared.applied.Applied.TheVariants.{Moves as IsMoved, Wants as IsWanted}
 use Rattle.run_parts.proofs.Served.{Next, each_next}
 use Rattle.run_parts.specs.Doings.{doings, doings_cause}
 use Rattle.run_history.specs.Changes.{EachChange}
@@ -26,7 +26,7 @@ use Rattle.run_parts.specs.Uses.{Frees, FreesAny, Locked}
 use Rattle.run_tokens.proofs.Law.{AtServer}
 use Rattle.run_rules.specs.declared.applied.Applied.{Applied}
 use Rattle.run_rules.specs.declared.step.Cause.{Cause}
-use Rattle.run_rules.specs.declared.step.Cause.TheVariants.{End, Evict, Flushed, Lapse, Line, Message as Came}
+use Rattle.run_rules.specs.declared.step.Cause.TheVariants.{End, Evict, Flushed, Freight, Lapse, Line, Message as Came}
 use Rattle.run_rules.specs.declared.step.Cause.TheVariants.{Restart}
 use Rattle.run_rules.specs.declared.step.Labelled.{Labelled}
 use Rattle.run_rules.specs.declared.step.Step.{Step}
@@ -44,6 +44,7 @@ same_deciding (IsDone x ∷ xs) = refl
 same_deciding (Replied x ∷ xs) = same_deciding xs
 same_deciding (Stored h f ss n ∷ xs) = same_deciding xs
 same_deciding (IsDown h ∷ xs) = same_deciding xs
+same_deciding (IsMoved move ∷ xs) = same_deciding xs
 
 module _ (script : Script) (start : Tree) (firsts : ServerId → ℕ) (real : (v : ServerId) → 0 < firsts v)
     (past : List Step) (s : Step) (run : StepsMeet script start firsts (s ∷ past)) (v : ServerId)
@@ -100,6 +101,7 @@ module _ (script : Script) (start : Tree) (firsts : ServerId → ℕ) (real : (v
   taken_next (Line line) more each at = (at, each)
   taken_next Lapse more each at = (at, each)
   taken_next Evict more each at = (at, each)
+  taken_next (Freight freight) more each at = (at, each)
   taken_next End more each at = (at, each)
 
   serve_them : (h : HostId) (todo : List Doing) → EachInTurn (Next own_of v) todo S
@@ -120,6 +122,7 @@ module _ (script : Script) (start : Tree) (firsts : ServerId → ℕ) (real : (v
   taken_uses (Line line) more each h = serve_them h [] tt
   taken_uses Lapse more each h = serve_them h [] tt
   taken_uses Evict more each h = serve_them h [] tt
+  taken_uses (Freight freight) more each h = serve_them h [] tt
   taken_uses End more each h = serve_them h [] tt
 
   issued_past : (c : Cause) (t : Token) (x : StayStamp) → Issued S t x → Issued (after_cause c S) t x
@@ -129,6 +132,7 @@ module _ (script : Script) (start : Tree) (firsts : ServerId → ℕ) (real : (v
   issued_past (Line line) t x i = i
   issued_past Lapse t x i = i
   issued_past Evict t x i = i
+  issued_past (Freight freight) t x i = i
   issued_past End t x i = i
 
   m : StepMeets script start firsts (Server v) past s
@@ -168,6 +172,7 @@ module _ (script : Script) (start : Tree) (firsts : ServerId → ℕ) (real : (v
   walk (Replied x ∷ xs) K D may next mid = elim may.0 [ ]
   walk (Stored h f ss n ∷ xs) K D may next mid = elim may.0 [ ]
   walk (IsDown h ∷ xs) K D may next mid = elim may.0 [ ]
+  walk (IsMoved move ∷ xs) K D may next mid = elim may.0 [ ]
 
   pub each_mid : EachChange (λ before K x. Mid before) s.cause
       (filesets_through s.cause (by_cause s.applied) (filesets_kept start v (steps_of_server v past))) (after_cause s.cause (doings_of

@@ -33,7 +33,7 @@ use Rattle.run_contents.specs.Gives.{IsKept}
 use Rattle.run_contents.specs.Instance.{IsOfRun}
 use Rattle.run_rules.specs.declared.applied.Applied.{Applied}
 use Rattle.run_rules.specs.declared.step.Cause.{Cause}
-use Rattle.run_rules.specs.declared.step.Cause.TheVariants.{End, Evict, Flushed, Lapse, Line, Message as Came}
+use Rattle.run_rules.specs.declared.step.Cause.TheVariants.{End, Evict, Flushed, Freight, Lapse, Line, Message as Came}
 use Rattle.run_rules.specs.declared.step.Cause.TheVariants.{Restart}
 use Rattle.run_rules.specs.declared.step.Step.{Step}
 
@@ -131,6 +131,7 @@ module _ (script : Script) (start : Tree) (firsts : ServerId → ℕ) (c : Conte
       go (Line line) e = none (Line line) e (λ m q. cc)
       go Lapse e = none Lapse e (λ m q. cc)
       go Evict e = none Evict e (λ m q. cc)
+      go (Freight freight) e = none (Freight freight) e (λ m q. cc)
       go End e = none End e (λ m q. cc)
 
   -- the cells after the step
@@ -200,4 +201,5 @@ module _ (script : Script) (start : Tree) (firsts : ServerId → ℕ) (c : Conte
         go (Line line) e = none (Line line) e (λ m q. cc)
         go Lapse e = none Lapse e (λ m q. cc)
         go Evict e = none Evict e (λ m q. cc)
+        go (Freight freight) e = none (Freight freight) e (λ m q. cc)
         go End e = none End e (λ m q. cc)

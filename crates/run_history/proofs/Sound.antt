@@ -30,7 +30,7 @@ use Rattle.run_rules.specs.Runs.{StepMeets, StepsMeet}
 use Rattle.run_rules.specs.Steps.{is_node, steps_of_host}
 use Rattle.run_rules.specs.Views.{byte_in, byte_of, is_shown, part_told}
 use Rattle.run_rules.specs.declared.applied.Applied.TheVariants.{Done as IsDone, IsDown, Replied, Stored}
-use Rattle.run_rules.specs.declared.applied.Applied.TheVariants.{Wants as IsWanted}
+use Rattle.run_rules.specs.declared.applied.Applied.TheVariants.{Moves as IsMoved, Wants as IsWanted}
 use Rattle.run_parts.specs.Contents.{Contents, sees, view}
 use Rattle.run_contents.proofs.Answers.{wrote_so}
 use Rattle.run_contents.proofs.Runs.{own_run}
@@ -39,7 +39,7 @@ use Rattle.run_tokens.proofs.Words.{if_host, own_after}
 use Rattle.run_rules.specs.declared.applied.Admission.{Admission}
 use Rattle.run_rules.specs.declared.applied.Applied.{Applied}
 use Rattle.run_rules.specs.declared.step.Cause.{Cause}
-use Rattle.run_rules.specs.declared.step.Cause.TheVariants.{End, Evict, Flushed, Lapse, Line, Message as Came}
+use Rattle.run_rules.specs.declared.step.Cause.TheVariants.{End, Evict, Flushed, Freight, Lapse, Line, Message as Came}
 use Rattle.run_rules.specs.declared.step.Cause.TheVariants.{Restart}
 use Rattle.run_rules.specs.declared.step.Step.{Step}
 
@@ -81,6 +81,7 @@ module _ (script : Script) (h : HostId) (e n : ℕ) (b : Body) where
   writes (Replied x ∷ xs) S old = writes xs S old
   writes (Stored k f ss l ∷ xs) S old = writes xs S old
   writes (IsDown k ∷ xs) S old = writes xs S old
+  writes (IsMoved move ∷ xs) S old = writes xs S old
 
   causes : (c : Cause) (S : List Doing) → AllSound S → AllSound (after_cause c S)
   causes (Came m) S old = other S (Took m.host m.epoch m.moves m.body) (λ q. cc) old
@@ -89,6 +90,7 @@ module _ (script : Script) (h : HostId) (e n : ℕ) (b : Body) where
   causes (Line line) S old = old
   causes Lapse S old = old
   causes Evict S old = old
+  causes (Freight freight) S old = old
   causes End S old = old
 
   steps : (s : Step) (S : List Doing) → ((m : Message) → In m s.sent → IsSound script.roster m) → AllSound S

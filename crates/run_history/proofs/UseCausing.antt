@@ -20,12 +20,12 @@ use Rattle.run_rules.specs.Past.{In}
 use Rattle.run_rules.specs.ServerDecides.{FirstDown, FirstGiven, ServerApplies, by_cause, decisions, is_decision}
 use Rattle.run_rules.specs.Tokens.{number_of}
 use Rattle.run_rules.specs.declared.applied.Applied.TheVariants.{Done as IsDone, IsDown as GoesDown, Replied, Stored}
-use Rattle.run_rules.specs.declared.applied.Applied.TheVariants.{Wants as IsWanted}
+use Rattle.run_rules.specs.declared.applied.Applied.TheVariants.{Moves as IsMoved, Wants as IsWanted}
 use Rattle.run_rules.specs.declared.applied.Admission.{Admission}
 use Rattle.run_rules.specs.declared.applied.Answer.{Answer}
 use Rattle.run_rules.specs.declared.applied.Applied.{Applied as AppliedOf}
 use Rattle.run_rules.specs.declared.step.Cause.{Cause}
-use Rattle.run_rules.specs.declared.step.Cause.TheVariants.{End, Evict, Flushed, Lapse, Line, Message as Came}
+use Rattle.run_rules.specs.declared.step.Cause.TheVariants.{End, Evict, Flushed, Freight, Lapse, Line, Message as Came}
 use Rattle.run_rules.specs.declared.step.Cause.TheVariants.{Restart}
 use Rattle.run_rules.specs.declared.step.Labelled.{Labelled}
 use Rattle.run_rules.specs.declared.step.Step.{Step}
@@ -65,6 +65,7 @@ module _ (v : ServerId) (h : HostId) (u : Labelled) where
   writes_none (Replied x ∷ xs) more rest = writes_none xs more rest
   writes_none (Stored k f ss n ∷ xs) more rest = writes_none xs more rest
   writes_none (GoesDown k ∷ xs) more rest = writes_none xs more rest
+  writes_none (IsMoved move ∷ xs) more rest = writes_none xs more rest
 
   module _ (s : Step) (S : List Doing) where
     abbrev more : List Doing
@@ -83,6 +84,7 @@ module _ (v : ServerId) (h : HostId) (u : Labelled) where
     by_message (Line line) f = absurd (none_more S f)
     by_message Lapse f = absurd (none_more S f)
     by_message Evict f = absurd (none_more S f)
+    by_message (Freight freight) f = absurd (none_more S f)
     by_message End f = absurd (none_more S f)
 
     pub frees_is : FreesAny v (doings s S) S h u
@@ -107,6 +109,7 @@ module _ (v : ServerId) (h : HostId) (u : Labelled) where
         go (Line line) f = absurd (none_more S f)
         go Lapse f = absurd (none_more S f)
         go Evict f = absurd (none_more S f)
+        go (Freight freight) f = absurd (none_more S f)
         go End f = absurd (none_more S f)
 
     pub of_cause : FreesAny v (doings_cause s.cause S []) S h u → FreesAny v (doings s S) S h u
@@ -122,6 +125,7 @@ module _ (v : ServerId) (h : HostId) (u : Labelled) where
         go (Line line) f = elim f [ ]
         go Lapse f = elim f [ ]
         go Evict f = elim f [ ]
+        go (Freight freight) f = elim f [ ]
         go End f = elim f [ ]
 
 one_message : (c : Cause) (m n : Message) → c ≡ Came m → c ≡ Came n → m ≡ n
@@ -221,6 +225,7 @@ module _ (v : ServerId) (S : List Doing) (tree : Tree) (s : Step) (k : ServerApp
             absurd (some (no_message v S tree s k (λ m q. (let r : Line line ≡ Came m = sym e ∙ q in cc))))
         go Lapse e = absurd (some (no_message v S tree s k (λ m q. (let r : Lapse ≡ Came m = sym e ∙ q in cc))))
         go Evict e = absurd (some (no_message v S tree s k (λ m q. (let r : Evict ≡ Came m = sym e ∙ q in cc))))
+        go (Freight freight) e = absurd (some (no_message v S tree s k (λ m q. (let r : Freight freight ≡ Came m = sym e ∙ q in cc))))
         go End e = absurd (some (no_message v S tree s k (λ m q. (let r : End ≡ Came m = sym e ∙ q in cc))))
 
 -- the end of a use stands before what is decided
@@ -232,7 +237,9 @@ end_by_cause (Replied x ∷ xs) a all (inr i) = inr (end_by_cause xs a all i)
 end_by_cause (Stored k f ss n ∷ xs) a all (inl e) = absurd (cc)
 end_by_cause (Stored k f ss n ∷ xs) a all (inr i) = inr (end_by_cause xs a all i)
 end_by_cause (GoesDown k ∷ xs) a all (inl e) = absurd (cc)
+end_by_cause (IsMoved move ∷ xs) a all (inl e) = absurd (cc)
 end_by_cause (GoesDown k ∷ xs) a all (inr i) = inr (end_by_cause xs a all i)
+end_by_cause (IsMoved move ∷ xs) a all (inr i) = inr (end_by_cause xs a all i)
 end_by_cause (IsWanted x ∷ xs) a all i = absurd (decided (IsWanted x ∷ xs) all i)
   where
     decided : (ys : List AppliedOf) → list_all is_decision ys ≡ true → In (Replied a) ys → ⊥

@@ -36,7 +36,7 @@ use Rattle.run_contents.specs.Doing.{writes}
 use Rattle.run_contents.specs.Instance.{IsOfRun}
 use Rattle.run_rules.specs.declared.applied.Applied.{Applied}
 use Rattle.run_rules.specs.declared.step.Cause.{Cause}
-use Rattle.run_rules.specs.declared.step.Cause.TheVariants.{End, Evict, Flushed, Lapse, Line, Message as Came}
+use Rattle.run_rules.specs.declared.step.Cause.TheVariants.{End, Evict, Flushed, Freight, Lapse, Line, Message as Came}
 use Rattle.run_rules.specs.declared.step.Cause.TheVariants.{Restart}
 use Rattle.run_rules.specs.declared.step.Step.{Step}
 use Rattle.run_history.specs.UseGranted.{CellsWritten, DecidesGranted, DecisionsAreGranted, GrantedThrough}
@@ -107,6 +107,7 @@ module _ (v : ServerId) (cause : Cause) where
     from_cause (Line line) g none = bare g (none (λ m q. cc))
     from_cause Lapse g none = bare g (none (λ m q. cc))
     from_cause Evict g none = bare g (none (λ m q. cc))
+    from_cause (Freight freight) g none = bare g (none (λ m q. cc))
     from_cause End g none = bare g (none (λ m q. cc))
 
 module _ (script : Script) (journal : Journal) (run : IsRun script journal) (c : Contents)

@@ -22,7 +22,7 @@ use Rattle.run_rules.specs.ServerDecides.{by_cause, decisions}
 use Rattle.run_rules.specs.Steps.{steps_of_server}
 use Rattle.run_rules.specs.Wants.{moves_fileset}
 use Rattle.run_rules.specs.declared.applied.Applied.TheVariants.{Done as IsDone, IsDown, Replied, Stored}
-use Rattle.run_rules.specs.declared.applied.Applied.TheVariants.{Wants as IsWanted}
+use Rattle.run_rules.specs.declared.applied.Applied.TheVariants.{Moves as IsMoved, Wants as IsWanted}
 use Rattle.run_history.proofs.ChangeLaw.{WrittenAt, each_both, each_map, run_first, run_limit, step_writes}
 use Rattle.run_history.specs.Changes.{AgreesKept, EachChange, IsLegalChange}
 use Rattle.run_contents.specs.Gives.{IsKept}
@@ -61,7 +61,10 @@ each_in P cause (Stored h f ss n ∷ xs) K D all x (inl e) = cc
 each_in P cause (Stored h f ss n ∷ xs) K D all x (inr i) =
     each_in P cause xs (filesets_after cause K (Stored h f ss n)) D all x i
 each_in P cause (IsDown h ∷ xs) K D all x (inl e) = cc
+each_in P cause (IsMoved move ∷ xs) K D all x (inl e) = cc
 each_in P cause (IsDown h ∷ xs) K D all x (inr i) = each_in P cause xs (filesets_after cause K (IsDown h)) D all x i
+each_in P cause (IsMoved move ∷ xs) K D all x (inr i) =
+    each_in P cause xs (filesets_after cause K (IsMoved move)) D all x i
 
 -- what is written down is decided
 done_decided : (x : Written) (xs : List Applied) → In (IsDone x) xs → In (IsDone x) (decisions xs)
@@ -73,7 +76,9 @@ done_decided x (Replied y ∷ xs) (inr i) = done_decided x xs i
 done_decided x (Stored h f ss n ∷ xs) (inl e) = cc
 done_decided x (Stored h f ss n ∷ xs) (inr i) = done_decided x xs i
 done_decided x (IsDown h ∷ xs) (inl e) = cc
+done_decided x (IsMoved move ∷ xs) (inl e) = cc
 done_decided x (IsDown h ∷ xs) (inr i) = done_decided x xs i
+done_decided x (IsMoved move ∷ xs) (inr i) = done_decided x xs i
 
 -- a label that passes is free
 label_free : (tree : Tree) (host : HostId) (c : ChangeOf) (call : Call) → TreePasses tree host c call

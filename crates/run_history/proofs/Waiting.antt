@@ -26,7 +26,7 @@ use Rattle.run_rules.specs.ServerMay.{ServerMay}
 use Rattle.run_rules.specs.Steps.{steps_of_host, steps_of_server}
 use Rattle.run_rules.specs.Wants.{Decides, IsOld, IsQueued}
 use Rattle.run_rules.specs.declared.applied.Applied.TheVariants.{Done as IsDone, IsDown, Replied, Stored}
-use Rattle.run_rules.specs.declared.applied.Applied.TheVariants.{Wants as IsWanted}
+use Rattle.run_rules.specs.declared.applied.Applied.TheVariants.{Moves as IsMoved, Wants as IsWanted}
 use Rattle.run_rules.specs.declared.applied.Request.TheVariants.{Change as Changes}
 use Rattle.run_parts.proofs.Words.{host_split}
 use Rattle.run_contents.proofs.Grants.{same_decisions}
@@ -39,7 +39,7 @@ use Rattle.run_rules.specs.declared.applied.Request.{Request}
 use Rattle.run_rules.specs.declared.applied.Wanted.{Wanted}
 use Rattle.run_rules.specs.declared.applied.Written.{Written}
 use Rattle.run_rules.specs.declared.step.Cause.{Cause}
-use Rattle.run_rules.specs.declared.step.Cause.TheVariants.{End, Evict, Flushed, Lapse, Line, Message as Came}
+use Rattle.run_rules.specs.declared.step.Cause.TheVariants.{End, Evict, Flushed, Freight, Lapse, Line, Message as Came}
 use Rattle.run_rules.specs.declared.step.Cause.TheVariants.{Restart}
 use Rattle.run_rules.specs.declared.step.Step.{Step}
 use Rattle.run_history.proofs.State.{whole}
@@ -89,6 +89,7 @@ causes Flushed S old = on S Flushes (λ w e. cc) (λ h e n b q. cc) refl old
 causes (Line line) S old = old
 causes Lapse S old = old
 causes Evict S old = old
+causes (Freight freight) S old = old
 causes End S old = old
 
 same_want : (v w : Wanted) → MakesWant v ≡ MakesWant w → v ≡ w
@@ -136,6 +137,7 @@ decides v before s (IsDone x ∷ xs) tree S may old =
 decides v before s (Replied x ∷ xs) tree S may old = elim may.0 [ ]
 decides v before s (Stored h f ss n ∷ xs) tree S may old = elim may.0 [ ]
 decides v before s (IsDown h ∷ xs) tree S may old = elim may.0 [ ]
+decides v before s (IsMoved move ∷ xs) tree S may old = elim may.0 [ ]
 
 step_fresh : (script : Script) (start : Tree) (v : ServerId) (steps : List Step) (S : List Doing) (s : Step)
     → ServerMay script start v steps S s → AllFresh S → AllFresh (after_step s S)
@@ -159,6 +161,7 @@ cause_sent Flushed S h e n b o = inr o
 cause_sent (Line line) S h e n b o = o
 cause_sent Lapse S h e n b o = o
 cause_sent Evict S h e n b o = o
+cause_sent (Freight freight) S h e n b o = o
 cause_sent End S h e n b o = o
 
 pub sent_later : (s : Step) (S : List Doing) (h : HostId) (e n : ℕ) (b : Body) → SentTo S h e n b

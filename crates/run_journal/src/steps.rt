@@ -2,13 +2,16 @@
 ghost use Rattle.std.specs.Prelude.{◌≡◌, ◌++◌, OnOk};
 ghost use Rattle.json.specs.Tree.{json_tokens, members_tokens};
 ghost use Rattle.run_journal.specs.Steps.{done_members, given_members, held_members, stored_json};
+ghost use Rattle.run_journal.specs.Steps.{leaves_json, left_json, part_json};
 
 use crate::line::{ToLine, put_field, put_tagged};
-use base_types::{Fid, HostId, Items, NoMemory, Node, Span};
+use base_types::{Fid, FilesetId, HostId, Items, NoMemory, Node, ServerId, Span};
 use message_json::Line;
 use run_rules::{
-    Admission, Answer, Applied, Asked, Cause, Labelled, Leave, Request, Step, Wanted, Why, Written,
+    Admission, Answer, Applied, Asked, Cause, Head, Labelled, Leave, Move, Request, Step, Wanted,
+    Why, Written,
 };
+use tree_calls::Mover;
 
 impl ToLine for Node {
     ghost use Rattle.run_journal.specs.Steps.{node_json};
@@ -39,6 +42,7 @@ impl ToLine for Cause {
             Cause::Evict => line.word("evict"),
             Cause::End => line.word("end"),
             Cause::Flushed => line.word("flushed"),
+            Cause::Freight(message) => line.tagged("freight", message),
         }
     }
 }
@@ -164,6 +168,85 @@ impl ToLine for Written {
     }
 }
 
+impl ToLine for Head {
+    ghost use Rattle.run_journal.specs.Steps.{head_json};
+
+    ghost json = { head_json };
+
+    #[tactic(auto, unfolding(crate::specs::Steps::head_json))]
+    fn put(&self, line: &mut Line) -> Result<(), NoMemory> {
+        line.open()?;
+        line.field("from", &self.from)?;
+        line.field("moves", &self.moves)?;
+        line.field("ship", &self.ship)?;
+        put_field(line, "written", &self.written)?;
+        line.close()
+    }
+}
+
+impl ToLine for Move {
+    ghost use Rattle.run_journal.specs.Steps.{move_json};
+
+    ghost json = { move_json };
+
+    #[tactic(auto, unfolding(crate::specs::Steps::move_json))]
+    fn put(&self, line: &mut Line) -> Result<(), NoMemory> {
+        match self {
+            Move::Leaves {
+                fileset,
+                to,
+                ship,
+                mover,
+            } => put_leaves(line, *fileset, *to, *ship, mover),
+            Move::Arrives(head) => put_tagged(line, "arrives", head),
+            Move::Part { fileset, last } => put_part(line, *fileset, *last),
+            Move::Back(written) => put_tagged(line, "back", written),
+            Move::Left { fileset, to } => put_left(line, *fileset, *to),
+        }
+    }
+}
+
+// Adds that a fileset begins to leave.
+#[tactic(auto, unfolding(message_json::specs::Values::tagged))]
+fn put_leaves(
+    line: &mut Line,
+    fileset: FilesetId,
+    to: ServerId,
+    ship: u64,
+    mover: &Mover,
+) -> Result<(), NoMemory>
+    ensures { OnOk result (line.new ≡ line.old ++ json_tokens (leaves_json fileset to ship mover.now)) }
+{
+    line.begin("leaves")?;
+    line.field("fileset", &fileset)?;
+    line.field("to", &to)?;
+    line.field("ship", &ship)?;
+    line.field("mover", mover)?;
+    line.end()
+}
+
+// Adds that a part of a fileset is taken.
+#[tactic(auto, unfolding(message_json::specs::Values::tagged))]
+fn put_part(line: &mut Line, fileset: FilesetId, last: bool) -> Result<(), NoMemory>
+    ensures { OnOk result (line.new ≡ line.old ++ json_tokens (part_json fileset last)) }
+{
+    line.begin("part")?;
+    line.field("fileset", &fileset)?;
+    line.field("last", &last)?;
+    line.end()
+}
+
+// Adds that a fileset has left.
+#[tactic(auto, unfolding(message_json::specs::Values::tagged))]
+fn put_left(line: &mut Line, fileset: FilesetId, to: ServerId) -> Result<(), NoMemory>
+    ensures { OnOk result (line.new ≡ line.old ++ json_tokens (left_json fileset to)) }
+{
+    line.begin("left")?;
+    line.field("fileset", &fileset)?;
+    line.field("to", &to)?;
+    line.end()
+}
+
 impl ToLine for Applied {
     ghost use Rattle.run_journal.specs.Steps.{applied_json};
 
@@ -182,6 +265,7 @@ impl ToLine for Applied {
             Applied::IsDown(host) => line.tagged("is_down", host),
             Applied::Wants(wanted) => put_tagged(line, "wants", wanted),
             Applied::Done(written) => put_tagged(line, "done", written),
+            Applied::Moves(of) => put_tagged(line, "moves", of),
         }
     }
 }
@@ -265,6 +349,7 @@ fn put_done(line: &mut Line, step: &Step) -> Result<(), NoMemory>
     put_field(line, "applied", &step.applied)?;
     put_field(line, "admitted", &step.admitted)?;
     line.field("sent", &step.sent)?;
+    line.field("shipped", &step.shipped)?;
     line.field("reserved", &step.reserved)?;
     line.close()
 }

@@ -82,6 +82,7 @@ fn step(alloc: Global, node: Node, cause: Cause) -> Step {
         applied: Items::new(alloc),
         admitted: Items::new(alloc),
         sent: Items::new(alloc),
+        shipped: Items::new(alloc),
         reserved: Items::new(alloc),
     }
 }

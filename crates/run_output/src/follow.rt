@@ -3,10 +3,10 @@ ghost use Rattle.std.specs.Prelude.{◌≡◌, ◌++◌, ◌∷◌, [], IfOk, On
 ghost use Rattle.tree_calls.specs.declared.entry.Entry.TheVariants.{Down};
 ghost use Rattle.tree_answers.specs.Answers.{answer_to};
 ghost use Rattle.tree_answers.specs.Histories.{after_history, lost_in};
-ghost use Rattle.run_rules.specs.Runs.{call_entry, entries_in, entries_of, history_of};
+ghost use Rattle.run_rules.specs.Runs.{call_entry, entries_in, entries_moved, entries_of, history_of};
 
 use base_types::{HostId, Items, NoMemory, Node, Plain, ServerId};
-use run_rules::{Answer, Applied, Step};
+use run_rules::{Answer, Applied, Move, Step};
 use std::alloc::Global;
 use tree_answers::Tree;
 use tree_calls::{Call, Loss};
@@ -98,6 +98,31 @@ fn follow_one(
         Applied::IsDown(host) => follow_down(tree, losses, *host, server),
         Applied::Wants(_) => Ok(()),
         Applied::Done(written) => follow_call(tree, &written.answer),
+        Applied::Moves(of) => follow_move(tree, server, of),
+    }
+}
+
+// Makes the tree what it is after a part of a move, which loses nothing.
+fn follow_move(tree: &mut Tree, server: ServerId, of: &Move) -> Result<(), NoMemory>
+    ensures { OnOk result (tree.new ≡ after_history tree.old (entries_moved server of.now)) }
+{
+    match of {
+        Move::Leaves {
+            fileset: _,
+            to: _,
+            ship: _,
+            mover: _,
+        } => Ok(()),
+        Move::Arrives(head) => follow_call(tree, &head.written.answer),
+        Move::Part {
+            fileset: _,
+            last: _,
+        } => Ok(()),
+        Move::Back(_) => Ok(()),
+        Move::Left { fileset, to: _ } => {
+            tree.left(server, *fileset);
+            Ok(())
+        }
     }
 }
 

@@ -6,7 +6,7 @@ ghost use Rattle.script_output.specs.Reports.{answer_in, answers_of};
 ghost use Rattle.run_rules.specs.Runs.{call_entry, entries_in, entries_of, history_of};
 
 use base_types::{HOSTS_MAX, Items, NoMemory, Node, Plain, ServerId};
-use run_rules::{Answer, Applied, Step};
+use run_rules::{Answer, Applied, Move, Step};
 use script_lines::{Script, call_lines};
 use script_output::Answer as Told;
 use std::alloc::Global;
@@ -148,6 +148,7 @@ fn sort_one<'a>(sorted: &mut Items<Items<&'a Answer>>, applied: &'a Applied) -> 
     match applied {
         Applied::Replied(answer) => sort_answer(sorted, answer),
         Applied::Done(written) => sort_answer(sorted, &written.answer),
+        Applied::Moves(Move::Arrives(head)) => sort_answer(sorted, &head.written.answer),
         _ => Ok(()),
     }
 }

@@ -6,7 +6,7 @@ use Rattle.run_rules.specs.Messages.{Said}
 use Rattle.run_rules.specs.Past.{EachInTurn, appended}
 use Rattle.run_rules.specs.ServerTokens.{ServerStep, ServerTokens}
 use Rattle.run_rules.specs.declared.applied.Applied.TheVariants.{Done as IsDone, IsDown, Replied, Stored}
-use Rattle.run_rules.specs.declared.applied.Applied.TheVariants.{Wants as IsWanted}
+use Rattle.run_rules.specs.declared.applied.Applied.TheVariants.{Moves as IsMoved, Wants as IsWanted}
 use Rattle.std.proofs.Common.{◌≡◌, ℕ, ◌<◌, suc, List, [], ◌∷◌, ◌++◌, ◌∙◌, subst, refl, arith}
 use Rattle.base_types.specs.declared.ids.HostId.{HostId}
 use Rattle.base_types.specs.declared.ids.ServerId.{ServerId}
@@ -16,7 +16,7 @@ use Rattle.message_types.specs.declared.message.Message.{Message}
 use Rattle.run_rules.specs.declared.applied.Admission.{Admission}
 use Rattle.run_rules.specs.declared.applied.Applied.{Applied}
 use Rattle.run_rules.specs.declared.step.Cause.{Cause}
-use Rattle.run_rules.specs.declared.step.Cause.TheVariants.{Message as Came, Line, Restart, Lapse, Evict, End}
+use Rattle.run_rules.specs.declared.step.Cause.TheVariants.{End, Evict, Freight, Lapse, Line, Message as Came, Restart}
 use Rattle.run_rules.specs.declared.step.Cause.TheVariants.{Flushed}
 use Rattle.run_rules.specs.declared.step.Step.{Step}
 use Rattle.run_tokens.proofs.Owed.{Owed}
@@ -132,6 +132,7 @@ module _ (own_of : HostId → List Step) (alone : (h : HostId) → Alone (own_of
   writes (Replied x ∷ xs) S more may rest = writes xs S more may rest
   writes (Stored h f ss n ∷ xs) S more may rest = writes xs S more may rest
   writes (IsDown h ∷ xs) S more may rest = writes xs S more may rest
+  writes (IsMoved move ∷ xs) S more may rest = writes xs S more may rest
 
   begins : (S : List Doing) (n : ℕ) → epoch S < n → Next own_of v S (BeginsEpoch n)
   begins S n up = record {
@@ -161,6 +162,7 @@ module _ (own_of : HostId → List Step) (alone : (h : HostId) → Alone (own_of
   causes (Line line) S more came rest = rest
   causes Lapse S more came rest = rest
   causes Evict S more came rest = rest
+  causes (Freight freight) S more came rest = rest
   causes End S more came rest = rest
 
   pub each_next : (s : Step) (S : List Doing) → ServerStep v S s
@@ -192,6 +194,7 @@ after_writes (IsDone x ∷ xs) S more = after_writes xs (WritesDown x ∷ S) mor
 after_writes (Replied x ∷ xs) S more = after_writes xs S more
 after_writes (Stored h f ss n ∷ xs) S more = after_writes xs S more
 after_writes (IsDown h ∷ xs) S more = after_writes xs S more
+after_writes (IsMoved move ∷ xs) S more = after_writes xs S more
 
 after_causes : (c : Cause) (S more : List Doing) → appended (doings_cause c S more) S ≡ appended more (after_cause c S)
 after_causes (Came m) S more = refl
@@ -200,6 +203,7 @@ after_causes Flushed S more = refl
 after_causes (Line line) S more = refl
 after_causes Lapse S more = refl
 after_causes Evict S more = refl
+after_causes (Freight freight) S more = refl
 after_causes End S more = refl
 
 -- after its doings a step is done

@@ -14,9 +14,11 @@ use Rattle.run_journal.specs.Steps.{
   cause_json,
   done_members,
   given_members,
+  head_json,
   held_members,
   labelled_json,
   leave_json,
+  move_json,
   node_json,
   request_json,
   step_json,
@@ -54,7 +56,10 @@ use Rattle.run_reading.proofs.Messages.{
   give_of,
   message_is,
   message_of,
+  ship_is,
+  ship_of,
 }
+use Rattle.run_reading.proofs.Objects.{mover_is, mover_of}
 use Rattle.run_reading.proofs.Parts.{fid_is, fid_of, fid_some, need_is, need_of, token_is, token_of}
 use Rattle.run_reading.specs.Journals.{
   TypedAdmission,
@@ -62,8 +67,10 @@ use Rattle.run_reading.specs.Journals.{
   TypedApplied,
   TypedAsked,
   TypedCause,
+  TypedHead,
   TypedLabelled,
   TypedLeave,
+  TypedMove,
   TypedNode,
   TypedRequest,
   TypedStep,
@@ -74,8 +81,11 @@ use Rattle.run_reading.specs.Messages.{IsWhole, TypedFid, TypedGive, TypedMessag
 use Rattle.run_rules.specs.declared.applied.Admission.{Admission}
 use Rattle.run_rules.specs.declared.applied.Answer.{Answer}
 use Rattle.run_rules.specs.declared.applied.Applied.{Applied}
-use Rattle.run_rules.specs.declared.applied.Applied.TheVariants.{Done, IsDown, Replied, Stored, Wants}
+use Rattle.run_rules.specs.declared.applied.Applied.TheVariants.{Done, IsDown, Moves, Replied, Stored, Wants}
+use Rattle.run_rules.specs.declared.applied.Head.{Head}
 use Rattle.run_rules.specs.declared.applied.Leave.{Leave}
+use Rattle.run_rules.specs.declared.applied.Move.{Move}
+use Rattle.run_rules.specs.declared.applied.Move.TheVariants as moves
 use Rattle.run_rules.specs.declared.applied.Request.{Request}
 use Rattle.run_rules.specs.declared.applied.Wanted.{Wanted}
 use Rattle.run_rules.specs.declared.applied.Why.{Why}
@@ -101,7 +111,8 @@ cause_of j =
     if is_case (codes "lapse") j then causes.Lapse else
     if is_case (codes "evict") j then causes.Evict else
     if is_case (codes "end") j then causes.End else
-    causes.Flushed
+    if is_case (codes "flushed") j then causes.Flushed else
+    causes.Freight (message_of (held j))
 
 unfoldable pub asked_of : Json → Asked
 asked_of j = record {
@@ -158,13 +169,30 @@ written_of j = record {
   answer = answer_of (part 2 j);
 }
 
+unfoldable pub head_of : Json → Head
+head_of j = record {
+  from = record { 0 = whole_of (part 0 j) };
+  moves = whole_of (part 1 j);
+  ship = ship_of (part 2 j);
+  written = written_of (part 3 j);
+}
+
+unfoldable pub move_of : Json → Move
+move_of j =
+    if is_case (codes "leaves") j then moves.Leaves (record { 0 = whole_of (part 0 (held j)) }) (record { 0 = whole_of (part 1 (held j)) }) (whole_of (part 2 (held j))) (mover_of (part 3 (held j))) else
+    if is_case (codes "arrives") j then moves.Arrives (head_of (held j)) else
+    if is_case (codes "part") j then moves.Part (record { 0 = whole_of (part 0 (held j)) }) (flag_of (part 1 (held j))) else
+    if is_case (codes "back") j then moves.Back (written_of (held j)) else
+    moves.Left (record { 0 = whole_of (part 0 (held j)) }) (record { 0 = whole_of (part 1 (held j)) })
+
 unfoldable pub applied_of : Json → Applied
 applied_of j =
     if is_case (codes "stored") j then Stored (record { 0 = whole_of (part 0 (held j)) }) (fid_of (part 1 (held j))) (list_of span_of (part 2 (held j))) (maybe_of whole_of (part 3 (held j))) else
     if is_case (codes "replied") j then Replied (answer_of (held j)) else
     if is_case (codes "is_down") j then IsDown (record { 0 = whole_of (held j) }) else
     if is_case (codes "wants") j then Wants (wanted_of (held j)) else
-    Done (written_of (held j))
+    if is_case (codes "done") j then Done (written_of (held j)) else
+    Moves (move_of (held j))
 
 unfoldable pub admission_of : Json → Admission
 admission_of j = record {
@@ -186,7 +214,8 @@ step_of j = record {
   applied = list_of applied_of (part 9 j);
   admitted = list_of admission_of (part 10 j);
   sent = list_of message_of (part 11 j);
-  reserved = list_of token_of (part 12 j);
+  shipped = list_of message_of (part 12 j);
+  reserved = list_of token_of (part 13 j);
 }
 
 pub node_is : (x : Node) → TypedNode x → IsRead node_of node_json x
@@ -213,6 +242,9 @@ cause_is causes.Lapse t = (refl, tt)
 cause_is causes.Evict t = (refl, tt)
 cause_is causes.End t = (refl, tt)
 cause_is causes.Flushed t = (refl, tt)
+cause_is (causes.Freight it) t =
+    let a0 = message_is it t in
+    (rw a0.0, (a0.1, tt))
 
 pub asked_is : (x : Asked) → TypedAsked x → IsRead asked_of asked_json x
 unfolding asked_json asked_of
@@ -282,6 +314,37 @@ written_is x t =
     let a2 = answer_is x.answer t.2 in
     (rw (a0.0, a1.0, a2.0), (a0.1, (a1.1, (a2.1, tt))))
 
+pub head_is : (x : Head) → TypedHead x → IsRead head_of head_json x
+unfolding head_json head_of
+head_is x t =
+    let a0 = whole_is x.from.0 t.0 in
+    let a1 = whole_is x.moves t.1 in
+    let a2 = ship_is x.ship t.2 in
+    let a3 = written_is x.written t.3 in
+    (rw (a0.0, a1.0, a2.0, a3.0), (a0.1, (a1.1, (a2.1, (a3.1, tt)))))
+
+pub move_is : (x : Move) → TypedMove x → IsRead move_of move_json x
+unfolding tagged move_json move_of
+move_is (moves.Leaves fileset to ship mover) t =
+    let a0 = whole_is fileset.0 t.0 in
+    let a1 = whole_is to.0 t.1 in
+    let a2 = whole_is ship t.2 in
+    let a3 = mover_is mover t.3 in
+    (rw (a0.0, a1.0, a2.0, a3.0), ((a0.1, (a1.1, (a2.1, (a3.1, tt)))), tt))
+move_is (moves.Arrives it) t =
+    let a0 = head_is it t in
+    (rw a0.0, (a0.1, tt))
+move_is (moves.Part fileset last) t =
+    let a0 = whole_is fileset.0 t in
+    (rw a0.0, ((a0.1, (tt, tt)), tt))
+move_is (moves.Back it) t =
+    let a0 = written_is it t in
+    (rw a0.0, (a0.1, tt))
+move_is (moves.Left fileset to) t =
+    let a0 = whole_is fileset.0 t.0 in
+    let a1 = whole_is to.0 t.1 in
+    (rw (a0.0, a1.0), ((a0.1, (a1.1, tt)), tt))
+
 pub applied_is : (x : Applied) → TypedApplied x → IsRead applied_of applied_json x
 unfolding tagged applied_json applied_of
 applied_is (Stored host fid spans len) t =
@@ -301,6 +364,9 @@ applied_is (Wants it) t =
     (rw a0.0, (a0.1, tt))
 applied_is (Done it) t =
     let a0 = written_is it t in
+    (rw a0.0, (a0.1, tt))
+applied_is (Moves it) t =
+    let a0 = move_is it t in
     (rw a0.0, (a0.1, tt))
 
 pub admission_is : (x : Admission) → TypedAdmission x → IsRead admission_of admission_json x
@@ -325,5 +391,6 @@ step_is x t =
     let a9 = list_is TypedApplied applied_of applied_json applied_is x.applied t.9 in
     let a10 = list_is TypedAdmission admission_of admission_json admission_is x.admitted t.10 in
     let a11 = list_is TypedMessage message_of message_json message_is x.sent t.11 in
-    let a12 = list_is TypedToken token_of token_json token_is x.reserved t.12 in
-    (rw (a0.0, a1.0, a2.0, a3.0, a4.0, a5.0, a6.0, a7.0, a8.0, a9.0, a10.0, a11.0, a12.0), (a0.1, (a1.1, (a2.1, (a3.1, (a4.1, (a5.1, (a6.1, (a7.1, (a8.1, (a9.1, (a10.1, (a11.1, (a12.1, tt))))))))))))))
+    let a12 = list_is TypedMessage message_of message_json message_is x.shipped t.12 in
+    let a13 = list_is TypedToken token_of token_json token_is x.reserved t.13 in
+    (rw (a0.0, a1.0, a2.0, a3.0, a4.0, a5.0, a6.0, a7.0, a8.0, a9.0, a10.0, a11.0, a12.0, a13.0), (a0.1, (a1.1, (a2.1, (a3.1, (a4.1, (a5.1, (a6.1, (a7.1, (a8.1, (a9.1, (a10.1, (a11.1, (a12.1, (a13.1, tt)))))))))))))))

@@ -14,16 +14,21 @@ use Rattle.run_reading.specs.Messages.{
   TypedFid,
   TypedGive,
   TypedMessage,
+  TypedMover,
   TypedNeed,
   TypedReply,
+  TypedShip,
   TypedToken,
   TypedUser,
 }
 use Rattle.run_rules.specs.declared.applied.Admission.{Admission}
 use Rattle.run_rules.specs.declared.applied.Answer.{Answer}
 use Rattle.run_rules.specs.declared.applied.Applied.{Applied}
-use Rattle.run_rules.specs.declared.applied.Applied.TheVariants.{Done, IsDown, Replied, Stored, Wants}
+use Rattle.run_rules.specs.declared.applied.Applied.TheVariants.{Done, IsDown, Moves, Replied, Stored, Wants}
+use Rattle.run_rules.specs.declared.applied.Head.{Head}
 use Rattle.run_rules.specs.declared.applied.Leave.{Leave}
+use Rattle.run_rules.specs.declared.applied.Move.{Move}
+use Rattle.run_rules.specs.declared.applied.Move.TheVariants as moves
 use Rattle.run_rules.specs.declared.applied.Request.{Request}
 use Rattle.run_rules.specs.declared.applied.Wanted.{Wanted}
 use Rattle.run_rules.specs.declared.applied.Written.{Written}
@@ -102,6 +107,7 @@ abbrev pub TypedCause : Cause → Type 0
 TypedCause (causes.Line it) = IsWhole it
 TypedCause (causes.Restart it) = IsWhole it
 TypedCause (causes.Message it) = TypedMessage it
+TypedCause (causes.Freight it) = TypedMessage it
 TypedCause _ = Unit {0}
 
 abbrev pub TypedAsked : Asked → Type 0
@@ -126,12 +132,24 @@ TypedWanted x = IsWhole x.host.0 × TypedRequest x.request × IsWhole x.moves ×
 abbrev pub TypedWritten : Written → Type 0
 TypedWritten x = IsWhole x.fileset.0 × IsWhole x.number × TypedAnswer x.answer
 
+abbrev pub TypedHead : Head → Type 0
+TypedHead x = IsWhole x.from.0 × IsWhole x.moves × TypedShip x.ship × TypedWritten x.written
+
+abbrev pub TypedMove : Move → Type 0
+TypedMove (moves.Leaves fileset to ship mover) =
+    IsWhole fileset.0 × IsWhole to.0 × IsWhole ship × TypedMover mover
+TypedMove (moves.Arrives it) = TypedHead it
+TypedMove (moves.Part fileset last) = IsWhole fileset.0
+TypedMove (moves.Back it) = TypedWritten it
+TypedMove (moves.Left fileset to) = IsWhole fileset.0 × IsWhole to.0
+
 abbrev pub TypedApplied : Applied → Type 0
 TypedApplied (Stored host fid spans len) = IsWhole host.0 × TypedFid fid × IfSome len IsWhole
 TypedApplied (Replied it) = TypedAnswer it
 TypedApplied (IsDown it) = IsWhole it.0
 TypedApplied (Wants it) = TypedWanted it
 TypedApplied (Done it) = TypedWritten it
+TypedApplied (Moves it) = TypedMove it
 
 abbrev pub TypedAdmission : Admission → Type 0
 TypedAdmission x = IsWhole x.host.0 × Each TypedToken x.tokens
@@ -141,7 +159,7 @@ TypedStep x =
     TypedNode x.node × TypedCause x.cause × IfSome x.asked TypedAsked × Each TypedToken x.taken
     × Each TypedAnswer x.answers × IfSome x.wrote TypedFid × Each TypedLabelled x.begun × Each TypedGive x.made
     × Each TypedLeave x.dropped × Each TypedApplied x.applied × Each TypedAdmission x.admitted
-    × Each TypedMessage x.sent × Each TypedToken x.reserved
+    × Each TypedMessage x.sent × Each TypedMessage x.shipped × Each TypedToken x.reserved
 
 abbrev pub TypedJournal : Journal → Type 0
 TypedJournal x = Each TypedTree x.start × Each IsWhole x.epochs × Each TypedStep x.steps

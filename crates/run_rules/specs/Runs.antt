@@ -8,7 +8,7 @@ use Rattle.base_types.specs.declared.ids.ServerId.{ServerId}
 use Rattle.tree_answers.specs.WellFormed.{IsWellFormed}
 use Rattle.tree_answers.specs.declared.tree.Tree.{Tree}
 use Rattle.tree_calls.specs.declared.entry.Entry.{Entry}
-use Rattle.tree_calls.specs.declared.entry.Entry.TheVariants.{Call, Down, Stored as StoredEntry}
+use Rattle.tree_calls.specs.declared.entry.Entry.TheVariants.{Call, Down, Left as LeftEntry, Stored as StoredEntry}
 use Rattle.tree_filesets.specs.WellFormed.{is_at_rest}
 use Rattle.script_lines.specs.declared.script.Deed.TheVariants.{Await, Raise}
 use Rattle.script_lines.specs.declared.script.Line.{Line}
@@ -26,7 +26,9 @@ use Rattle.run_rules.specs.ServerMay.{ServerMay}
 use Rattle.run_rules.specs.Steps.{first_epoch, lines_gone, lines_of, servers_of, setup, steps_of_host, steps_of_server}
 use Rattle.run_rules.specs.declared.applied.Answer.{Answer}
 use Rattle.run_rules.specs.declared.applied.Applied.{Applied}
-use Rattle.run_rules.specs.declared.applied.Applied.TheVariants.{Done, IsDown, Replied, Stored, Wants}
+use Rattle.run_rules.specs.declared.applied.Applied.TheVariants.{Done, IsDown, Moves, Replied, Stored, Wants}
+use Rattle.run_rules.specs.declared.applied.Move.{Move}
+use Rattle.run_rules.specs.declared.applied.Move.TheVariants.{Arrives, Left}
 use Rattle.run_rules.specs.declared.journal.Journal.{Journal}
 use Rattle.run_rules.specs.declared.step.Cause.TheVariants.{Line as LineOf, Message as Came}
 use Rattle.run_rules.specs.declared.step.Step.{Step}
@@ -37,6 +39,12 @@ use Rattle.run_rules.specs.declared.step.Step.{Step}
 abbrev pub call_entry : Answer → Entry
 call_entry answer = Call answer.host answer.k answer.call answer.reply
 
+-- Of a move the entries are its call, where its head comes to, and that the fileset has left.
+abbrev pub entries_moved : ServerId → Move → List Entry
+entries_moved server (Arrives head) = call_entry head.written.answer ∷ []
+entries_moved server (Left fileset to) = LeftEntry server fileset ∷ []
+entries_moved server _ = []
+
 -- What a server applies is an entry: a Change that it writes down, the call that a give-back ends, what became kept,
 -- a host that is down. A want is none.
 abbrev pub entries_in : ServerId → Applied → List Entry
@@ -45,6 +53,7 @@ entries_in server (Replied answer) = call_entry answer ∷ []
 entries_in server (IsDown host) = Down host server ∷ []
 entries_in server (Wants wanted) = []
 entries_in server (Done written) = call_entry written.answer ∷ []
+entries_in server (Moves of) = entries_moved server of
 
 -- a host applies nothing
 abbrev pub applied_entries : Node → List Applied → List Entry

@@ -38,6 +38,7 @@ bare node cause = record {
   applied = [];
   admitted = [];
   sent = [];
+  shipped = [];
   reserved = [];
 }
 

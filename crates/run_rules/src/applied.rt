@@ -1,9 +1,9 @@
 ghost use Rattle.std.specs.Prelude.{◌≡◌};
 
-use base_types::{Fid, FilesetId, HostId, Items, Span};
-use message_types::{Change, Fetch};
+use base_types::{Fid, FilesetId, HostId, Items, ServerId, Span};
+use message_types::{Change, Fetch, Ship};
 use token_types::{Need, Token};
-use tree_calls::{Call, Reply};
+use tree_calls::{Call, Mover, Reply};
 
 /// Why a token leaves its host.
 #[derive(Clone, Copy, PartialEq, Eq)]
@@ -130,6 +130,82 @@ impl Drop for Wanted {
     }
 }
 
+/// The head of a fileset that comes from another server, and what becomes of the call that moves it.
+pub struct Head {
+    /// The server from which it comes.
+    pub from: ServerId,
+    /// How often the fileset has moved, once it is here.
+    pub moves: u32,
+    /// The part itself, which is the head.
+    pub ship: Ship,
+    /// The call that moves it, with its reply. The fileset is taken where that isn't a refusal.
+    pub written: Written,
+}
+
+impl Drop for Head {
+    fn drop(self) {
+        let Head {
+            from: _,
+            moves: _,
+            ship: _,
+            written: _,
+        } = self;
+    }
+}
+
+/// What becomes, at a server, of a fileset that moves.
+pub enum Move {
+    /// It begins to leave for another server.
+    Leaves {
+        /// The fileset.
+        fileset: FilesetId,
+        /// The server to which it moves.
+        to: ServerId,
+        /// The number of the shipment among those of this server, from 1.
+        ship: u64,
+        /// Whose call moves it.
+        mover: Mover,
+    },
+    /// Its head is taken, or refused: now the call that moves it has its reply.
+    Arrives(Head),
+    /// A part of it is taken.
+    Part {
+        /// The fileset.
+        fileset: FilesetId,
+        /// Whether it is the last one, with which the fileset is here.
+        last: bool,
+    },
+    /// Its head was refused. It stays, and the call that moves it has this reply.
+    Back(Written),
+    /// It has left: all its parts were taken.
+    Left {
+        /// The fileset.
+        fileset: FilesetId,
+        /// The server to which it moved.
+        to: ServerId,
+    },
+}
+
+impl Drop for Move {
+    fn drop(self) {
+        match self {
+            Move::Leaves {
+                fileset: _,
+                to: _,
+                ship: _,
+                mover: _,
+            } => {}
+            Move::Arrives(_) => {}
+            Move::Part {
+                fileset: _,
+                last: _,
+            } => {}
+            Move::Back(_) => {}
+            Move::Left { fileset: _, to: _ } => {}
+        }
+    }
+}
+
 /// What a server decided, stored or learnt.
 pub enum Applied {
     /// Bytes of a give-back became kept in these spans, and its length where it has one.
@@ -151,6 +227,8 @@ pub enum Applied {
     Wants(Wanted),
     /// A Change is decided and written down.
     Done(Written),
+    /// What becomes of a fileset that moves.
+    Moves(Move),
 }
 
 impl Drop for Applied {
@@ -166,6 +244,7 @@ impl Drop for Applied {
             Applied::IsDown(_) => {}
             Applied::Wants(_) => {}
             Applied::Done(_) => {}
+            Applied::Moves(_) => {}
         }
     }
 }

@@ -1,8 +1,8 @@
 //! The history that a journal is.
 ghost use Rattle.std.specs.Prelude.{◌≡◌, ◌++◌, flat_map, map, IfOk, OnOk};
-ghost use Rattle.run_rules.specs.Runs.{applied_entries, call_entry, entries_in, entries_of, history_of};
+ghost use Rattle.run_rules.specs.Runs.{applied_entries, call_entry, entries_in, entries_moved, entries_of, history_of};
 
-use crate::applied::{Answer, Applied};
+use crate::applied::{Answer, Applied, Move};
 use crate::journal::Journal;
 use crate::step::Step;
 use base_types::{Items, NoMemory, Node, Plain, ServerId};
@@ -10,7 +10,8 @@ use std::alloc::Global;
 use tree_calls::Entry;
 
 /// The history of the file tree that a journal is: of each step, in order, the calls that a host answers, and then what
-/// a server stores, writes down and learns. Wants are no entries. `NoMemory` comes where memory runs out.
+/// a server stores, writes down and learns. A move is the entry of its call where its head arrives, and one more where
+/// the fileset has left; wants, and the parts between, are no entries. `NoMemory` comes where memory runs out.
 pub fn hist(alloc: Global, journal: &Journal) -> Result<Items<Entry>, NoMemory>
     ensures { IfOk result (λ history. history ≡ history_of journal.now.steps) }
 {
@@ -75,6 +76,30 @@ fn push_one(history: &mut Items<Entry>, server: ServerId, applied: &Applied) -> 
         }),
         Applied::Wants(_) => Ok(()),
         Applied::Done(written) => history.push(call_entry(&written.answer)?),
+        Applied::Moves(of) => push_move(history, server, of),
+    }
+}
+
+fn push_move(history: &mut Items<Entry>, server: ServerId, of: &Move) -> Result<(), NoMemory>
+    ensures { OnOk result (history.new ≡ history.old ++ entries_moved server of.now) }
+{
+    match of {
+        Move::Leaves {
+            fileset: _,
+            to: _,
+            ship: _,
+            mover: _,
+        } => Ok(()),
+        Move::Arrives(head) => history.push(call_entry(&head.written.answer)?),
+        Move::Part {
+            fileset: _,
+            last: _,
+        } => Ok(()),
+        Move::Back(_) => Ok(()),
+        Move::Left { fileset, to: _ } => history.push(Entry::Left {
+            server,
+            fileset: *fileset,
+        }),
     }
 }
 

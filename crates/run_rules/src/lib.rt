@@ -13,7 +13,7 @@ mod journal;
 mod route;
 mod step;
 
-pub use applied::{Admission, Answer, Applied, Leave, Request, Wanted, Why, Written};
+pub use applied::{Admission, Answer, Applied, Head, Leave, Move, Request, Wanted, Why, Written};
 pub use fate::{Fate, Left, Way, counts, fate_in_net, planned_fate};
 pub use history::hist;
 pub use journal::Journal;

@@ -20,6 +20,8 @@ pub enum Cause {
     End,
     /// What the server wrote down is on its disk.
     Flushed,
+    /// A message of another server came.
+    Freight(Message),
 }
 
 impl Drop for Cause {
@@ -32,6 +34,7 @@ impl Drop for Cause {
             Cause::Evict => {}
             Cause::End => {}
             Cause::Flushed => {}
+            Cause::Freight(_) => {}
         }
     }
 }
@@ -65,8 +68,8 @@ impl Drop for Labelled {
 }
 
 /// What a node does at a time. A host does it in this order: it takes tokens, answers calls, makes give-backs, drops
-/// tokens, sends. A server takes the cause, with what it stores and learns by it; it makes wants and writes Changes
-/// down, grants claims, sends in order; and then its exporter takes tokens.
+/// tokens, sends. A server takes the cause, with what it stores and learns by it; it makes wants, writes Changes down
+/// and lets a fileset leave, grants claims, sends to hosts and then to servers; and then its exporter takes tokens.
 pub struct Step {
     /// The node.
     pub node: Node,
@@ -86,13 +89,15 @@ pub struct Step {
     pub made: Items<Give>,
     /// The tokens that leave the host.
     pub dropped: Items<Leave>,
-    /// What the server stored and learnt by the cause, and then the wants that requests made and the Changes that it
-    /// wrote down, in order.
+    /// What the server stored and learnt by the cause, and then the wants that requests made, the Changes that it wrote
+    /// down and the filesets that began to leave, in order.
     pub applied: Items<Applied>,
     /// The claims that the server grants.
     pub admitted: Items<Admission>,
-    /// What the node sends, in order.
+    /// What the node sends, in order; a server, to hosts.
     pub sent: Items<Message>,
+    /// What the server sends to other servers, in order, behind all that it sends to hosts.
+    pub shipped: Items<Message>,
     /// The tokens that the server's exporter keeps until the Changes of the step are on the server's disk.
     pub reserved: Items<Token>,
 }
@@ -112,6 +117,7 @@ impl Drop for Step {
             applied: _,
             admitted: _,
             sent: _,
+            shipped: _,
             reserved: _,
         } = self;
     }

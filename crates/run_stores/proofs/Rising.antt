@@ -18,7 +18,8 @@ use Rattle.run_rules.specs.Runs.{StepMeets, StepsMeet, firsts_of, past_of}
 use Rattle.run_rules.specs.ServerTokens.{ServerStep, ServerTokens}
 use Rattle.run_rules.specs.declared.applied.Written.{Written}
 use Rattle.run_rules.specs.declared.step.Cause.{Cause}
-use Rattle.run_rules.specs.declared.step.Cause.TheVariants.{End, Evict, Flushed, Lapse, Line, Message as Came, Restart}
+use Rattle.run_rules.specs.declared.step.Cause.TheVariants.{End, Evict, Flushed, Freight, Lapse}
+use Rattle.run_rules.specs.declared.step.Cause.TheVariants.{Line, Message as Came, Restart}
 use Rattle.run_rules.specs.declared.step.Step.{Step}
 use Rattle.run_tokens.proofs.Words.{if_server}
 use Rattle.run_tokens.specs.TokenLaws.{WasApplied}
@@ -45,6 +46,7 @@ module _ (v : ServerId) where
   caused (Line line) S all = all
   caused Lapse S all = all
   caused Evict S all = all
+  caused (Freight freight) S all = all
   caused End S all = all
 
   one_step : (S : List Doing) (s : Step) → ServerStep v S s → Always Rises S → Always Rises (after_step s S)

@@ -62,7 +62,7 @@ use Rattle.run_contents.specs.Gives.{IsKept}
 use Rattle.run_rules.specs.Kept.{filesets_after, filesets_kept, filesets_through, is_refusal, pieces_in}
 use Rattle.run_rules.specs.Runs.{past_of}
 use Rattle.run_rules.specs.Steps.{steps_of_server}
-use Rattle.run_rules.specs.declared.applied.Applied.TheVariants.{Done, IsDown, Replied, Stored, Wants}
+use Rattle.run_rules.specs.declared.applied.Applied.TheVariants.{Done, IsDown, Moves as IsMoved, Replied, Stored, Wants}
 use Rattle.run_rules.specs.declared.applied.Applied.{Applied}
 use Rattle.run_rules.specs.declared.step.Cause.{Cause}
 use Rattle.run_rules.specs.declared.step.Step.{Step}
@@ -275,6 +275,13 @@ no_act cause (IsDown host ∷ applied) tree state s fit = no_act cause applied t
   acts_are = fit.acts_are;
   fresh = fit.fresh;
 })
+no_act cause (IsMoved move ∷ applied) tree state s fit = no_act cause applied tree state s (record {
+  rise = fit.rise;
+  decided = fit.decided.1;
+  takes = fit.takes;
+  acts_are = fit.acts_are;
+  fresh = fit.fresh;
+})
 no_act cause (Wants wanted ∷ applied) tree state s fit = no_act cause applied tree state s (record {
   rise = fit.rise;
   decided = fit.decided.1;
@@ -350,6 +357,14 @@ first_act cause act acts e rest (Replied answer ∷ applied) tree state s fit =
       fresh = fit.fresh;
     })
 first_act cause act acts e rest (IsDown host ∷ applied) tree state s fit =
+    first_act cause act acts e rest applied tree state s (record {
+      rise = fit.rise;
+      decided = fit.decided.1;
+      takes = fit.takes;
+      acts_are = fit.acts_are;
+      fresh = fit.fresh;
+    })
+first_act cause act acts e rest (IsMoved move ∷ applied) tree state s fit =
     first_act cause act acts e rest applied tree state s (record {
       rise = fit.rise;
       decided = fit.decided.1;

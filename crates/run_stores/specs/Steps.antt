@@ -25,7 +25,7 @@ use Rattle.run_rules.specs.Kept.{filesets_after, filesets_kept, filesets_through
 use Rattle.run_rules.specs.Runs.{IsEnded, IsRun, past_of}
 use Rattle.run_tokens.specs.Pasts.{tree_at}
 use Rattle.run_rules.specs.Steps.{steps_of_server}
-use Rattle.run_rules.specs.declared.applied.Applied.TheVariants.{Done, IsDown, Replied, Stored, Wants}
+use Rattle.run_rules.specs.declared.applied.Applied.TheVariants.{Done, IsDown, Moves as IsMoved, Replied, Stored, Wants}
 use Rattle.run_rules.specs.declared.journal.Journal.{Journal}
 use Rattle.run_rules.specs.declared.applied.Applied.{Applied}
 use Rattle.run_rules.specs.declared.applied.Written.{Written}
@@ -59,6 +59,7 @@ acts_of cause (Done written ∷ applied) = change_act written.answer.reply writt
 acts_of cause (Stored host fid spans given ∷ applied) = give_act cause host fid given ∷ acts_of cause applied
 acts_of cause (Replied answer ∷ applied) = acts_of cause applied
 acts_of cause (IsDown host ∷ applied) = acts_of cause applied
+acts_of cause (IsMoved move ∷ applied) = acts_of cause applied
 acts_of cause (Wants wanted ∷ applied) = acts_of cause applied
 
 -- whether an act changes more than what is known of epochs and hosts

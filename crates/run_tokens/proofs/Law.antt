@@ -11,7 +11,7 @@ use Rattle.run_rules.specs.ServerTokens.{ServerTokens}
 use Rattle.run_rules.specs.Steps.{steps_of_host}
 use Rattle.run_rules.specs.Tokens.{Held, Made, number_of}
 use Rattle.run_rules.specs.declared.applied.Applied.TheVariants.{Done as IsDone, IsDown, Replied, Stored}
-use Rattle.run_rules.specs.declared.applied.Applied.TheVariants.{Wants as IsWanted}
+use Rattle.run_rules.specs.declared.applied.Applied.TheVariants.{Moves as IsMoved, Wants as IsWanted}
 use Rattle.run_tokens.specs.TokenLaws.{AreAlwaysSafe, ChangesOnce, GivesOnce, IsTokenRun, NoConflict, StepMay}
 use Rattle.run_tokens.specs.TokenLaws.{TokensAreSafe, TokensNeverConflict, TookEver, WasApplied}
 use Rattle.std.proofs.Common.{◌≡◌, ℕ, ◌<◌, suc, true, List, [], ◌∷◌, inl, inr, sym, ◌∙◌, ap, subst, refl, arith}
@@ -31,7 +31,8 @@ use Rattle.message_types.specs.declared.giving.AppliedGive.{AppliedGive}
 use Rattle.run_rules.specs.declared.applied.Admission.{Admission}
 use Rattle.run_rules.specs.declared.applied.Applied.{Applied}
 use Rattle.run_rules.specs.declared.step.Cause.{Cause}
-use Rattle.run_rules.specs.declared.step.Cause.TheVariants.{Message as Came, Line, Restart, Lapse, Evict, End, Flushed}
+use Rattle.run_rules.specs.declared.step.Cause.TheVariants.{End, Evict, Flushed, Freight, Lapse}
+use Rattle.run_rules.specs.declared.step.Cause.TheVariants.{Line, Message as Came, Restart}
 use Rattle.run_rules.specs.declared.step.Step.{Step}
 use Rattle.run_tokens.proofs.Owed.{Owed}
 use Rattle.run_tokens.proofs.Words.{of_one, if_host, if_server, made_at}
@@ -140,6 +141,7 @@ module _ (own_of : HostId → List Step) (alone : (h : HostId) → Alone (own_of
   writes (Replied x ∷ xs) S at may = writes xs S at may
   writes (Stored h f ss n ∷ xs) S at may = writes xs S at may
   writes (IsDown h ∷ xs) S at may = writes xs S at may
+  writes (IsMoved move ∷ xs) S at may = writes xs S at may
 
   admits : (cs : List Admission) (S : List Doing) → AtServer own_of v S → EachInTurn (ServerTokens v) (admitting cs) S → AtServer own_of v (appended (admitting cs) S)
   admits [] S at may = at
@@ -157,6 +159,7 @@ module _ (own_of : HostId → List Step) (alone : (h : HostId) → Alone (own_of
   takes (Line line) S at came = at
   takes Lapse S at came = at
   takes Evict S at came = at
+  takes (Freight freight) S at came = at
   takes End S at came = at
 
 pub record Whole (own_of : HostId → List Step) (acts_of : ServerId → List Doing) : Type 0 where

@@ -16,6 +16,7 @@ use Rattle.run_rules.specs.ServerTokens.{HasTakenGives}
 use Rattle.run_rules.specs.declared.applied.Admission.{Admission}
 use Rattle.run_rules.specs.declared.applied.Applied.{Applied}
 use Rattle.run_rules.specs.declared.applied.Applied.TheVariants.{Done as IsDone, IsDown, Replied, Stored, Wants}
+use Rattle.run_rules.specs.declared.applied.Applied.TheVariants.{Moves as IsMoved}
 use Rattle.run_rules.specs.declared.step.Cause.{Cause}
 use Rattle.server_tables.specs.Judging.{first_ripe, has_all}
 use Rattle.server_tables.specs.declared.recovering.Claimed.{Claimed}
@@ -50,6 +51,7 @@ module _ (server : ServerId) where
   applied_heard (IsDone v ∷ more) p =
       heard_then (one_heard p (WritesDown v) (write_inner v)) (applied_heard more (WritesDown v ∷ p))
   applied_heard (IsDown host ∷ more) p = applied_heard more p
+  applied_heard (IsMoved move ∷ more) p = applied_heard more p
   applied_heard (Replied answer ∷ more) p = applied_heard more p
   applied_heard (Stored host fid spans length ∷ more) p = applied_heard more p
 
@@ -81,6 +83,7 @@ module _ (server : ServerId) where
         | inr q ↦ q
       ]
   applied_was (IsDown host ∷ more) p h r = applied_was more p h r
+  applied_was (IsMoved move ∷ more) p h r = applied_was more p h r
   applied_was (Replied answer ∷ more) p h r = applied_was more p h r
   applied_was (Stored host fid spans length ∷ more) p h r = applied_was more p h r
 
@@ -92,6 +95,7 @@ module _ (server : ServerId) where
   applied_is (IsDone v ∷ more) p h r =
       applied_is more (WritesDown v ∷ p) h ((reclaimed_inner server p (WritesDown v) (write_inner v) h).1 (inr r))
   applied_is (IsDown host ∷ more) p h r = applied_is more p h r
+  applied_is (IsMoved move ∷ more) p h r = applied_is more p h r
   applied_is (Replied answer ∷ more) p h r = applied_is more p h r
   applied_is (Stored host fid spans length ∷ more) p h r = applied_is more p h r
 

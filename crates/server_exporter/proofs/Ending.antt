@@ -38,6 +38,7 @@ use Rattle.run_rules.specs.Wants.{IsQueued, exporter}
 use Rattle.run_rules.specs.declared.applied.Admission.{Admission}
 use Rattle.run_rules.specs.declared.applied.Applied.{Applied}
 use Rattle.run_rules.specs.declared.applied.Applied.TheVariants.{Done as IsDone, IsDown, Replied, Stored, Wants}
+use Rattle.run_rules.specs.declared.applied.Applied.TheVariants.{Moves as IsMoved}
 use Rattle.run_rules.specs.declared.applied.Request.TheVariants.{Change as Changes}
 use Rattle.run_rules.specs.declared.applied.Wanted.{Wanted}
 use Rattle.run_rules.specs.declared.step.Cause.{Cause}
@@ -105,6 +106,7 @@ none_by_cause [] e = refl
 none_by_cause (Wants w ∷ more) e = refl
 none_by_cause (IsDone v ∷ more) e = refl
 none_by_cause (IsDown host ∷ more) e = absurd (cc)
+none_by_cause (IsMoved move ∷ more) e = absurd (cc)
 none_by_cause (Replied answer ∷ more) e = absurd (cc)
 none_by_cause (Stored host fid spans length ∷ more) e = absurd (cc)
 
@@ -114,6 +116,7 @@ by_cause_is [] more n e = none_by_cause more e
 by_cause_is (Wants w ∷ base) more n e = absurd (cc)
 by_cause_is (IsDone v ∷ base) more n e = absurd (cc)
 by_cause_is (IsDown host ∷ base) more n e = ap (λ l. IsDown host ∷ l) (by_cause_is base more n e)
+by_cause_is (IsMoved move ∷ base) more n e = ap (λ l. IsMoved move ∷ l) (by_cause_is base more n e)
 by_cause_is (Replied answer ∷ base) more n e = ap (λ l. Replied answer ∷ l) (by_cause_is base more n e)
 by_cause_is (Stored host fid spans length ∷ base) more n e =
     ap (λ l. Stored host fid spans length ∷ l) (by_cause_is base more n e)
@@ -123,6 +126,7 @@ none_left [] e = refl
 none_left (Wants w ∷ more) e = refl
 none_left (IsDone v ∷ more) e = refl
 none_left (IsDown host ∷ more) e = absurd (cc)
+none_left (IsMoved move ∷ more) e = absurd (cc)
 none_left (Replied answer ∷ more) e = absurd (cc)
 none_left (Stored host fid spans length ∷ more) e = absurd (cc)
 
@@ -132,6 +136,7 @@ decisions_are [] more n e = none_left more e
 decisions_are (Wants w ∷ base) more n e = absurd (cc)
 decisions_are (IsDone v ∷ base) more n e = absurd (cc)
 decisions_are (IsDown host ∷ base) more n e = decisions_are base more n e
+decisions_are (IsMoved move ∷ base) more n e = decisions_are base more n e
 decisions_are (Replied answer ∷ base) more n e = decisions_are base more n e
 decisions_are (Stored host fid spans length ∷ base) more n e = decisions_are base more n e
 

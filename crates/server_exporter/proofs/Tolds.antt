@@ -12,8 +12,10 @@ use Rattle.run_rules.specs.ServerTokens.{ServerTokens}
 use Rattle.run_rules.specs.declared.applied.Admission.{Admission}
 use Rattle.run_rules.specs.declared.applied.Applied.{Applied}
 use Rattle.run_rules.specs.declared.applied.Applied.TheVariants.{Done as IsDone, IsDown, Replied, Stored, Wants}
+use Rattle.run_rules.specs.declared.applied.Applied.TheVariants.{Moves as IsMoved}
 use Rattle.run_rules.specs.declared.step.Cause.{Cause}
-use Rattle.run_rules.specs.declared.step.Cause.TheVariants.{End, Evict, Flushed, Lapse, Line, Message as Came, Restart}
+use Rattle.run_rules.specs.declared.step.Cause.TheVariants.{End, Evict, Flushed, Freight, Lapse}
+use Rattle.run_rules.specs.declared.step.Cause.TheVariants.{Line, Message as Came, Restart}
 use Rattle.server_tables.proofs.Still.{same_epoch}
 use Rattle.server_exporter.specs.Machines.{AreTold, IsTold}
 use Rattle.message_types.specs.declared.message.Body.{Body}
@@ -126,6 +128,7 @@ module _ (server : ServerId) where
         told_decided more (filesets_after s.cause tree (IsDone v)) (WritesDown v ∷ p) may.1
         (told_next p (WritesDown v) (λ b. let q = b.1 in cc) (λ h e n r q. absurd (cc)) (λ w c n d q. absurd (cc)) z)
     told_decided (IsDown host ∷ more) tree p may z = absurd may.0
+    told_decided (IsMoved move ∷ more) tree p may z = absurd may.0
     told_decided (Replied answer ∷ more) tree p may z = absurd may.0
     told_decided (Stored host fid spans length ∷ more) tree p may z = absurd may.0
 
@@ -147,4 +150,5 @@ module _ (server : ServerId) where
   told_caused (Line line) p calm z = z
   told_caused Lapse p calm z = z
   told_caused Evict p calm z = z
+  told_caused (Freight freight) p calm z = z
   told_caused End p calm z = z

@@ -24,6 +24,7 @@ fn push_applied(text: &mut Text, applied: &Applied) {
         Applied::Replied(_) => text.word(" replied"),
         Applied::IsDown(_) => text.word(" down"),
         Applied::Wants(_) => text.word(" wants"),
+        Applied::Moves(_) => text.word(" moves"),
         Applied::Done(written) => {
             text.number(" did ", written.number);
             text.word(" ");

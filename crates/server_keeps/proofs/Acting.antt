@@ -33,7 +33,7 @@ use Rattle.run_history.proofs.Refusing.{for_none}
 use Rattle.run_rules.specs.Kept.{filesets_after, filesets_through, is_refusal, tree_given}
 use Rattle.run_rules.specs.ServerDecides.{kept_reply}
 use Rattle.run_rules.specs.declared.applied.Applied.{Applied}
-use Rattle.run_rules.specs.declared.applied.Applied.TheVariants.{Done, IsDown, Replied, Stored, Wants}
+use Rattle.run_rules.specs.declared.applied.Applied.TheVariants.{Done, IsDown, Moves as IsMoved, Replied, Stored, Wants}
 use Rattle.run_rules.specs.declared.applied.Written.{Written}
 use Rattle.run_rules.specs.declared.step.Cause.{Cause}
 use Rattle.run_stores.proofs.Changes.{changes_are_kept, refusal_is}
@@ -64,6 +64,7 @@ left_same cause tree (Done written) e =
 left_same cause tree (Stored host fid spans given) e = absurd (cc)
 left_same cause tree (Replied answer) e = refl
 left_same cause tree (IsDown host) e = refl
+left_same cause tree (IsMoved move) e = refl
 left_same cause tree (Wants wanted) e = refl
 
 -- the fileset under which an accepted call is numbered

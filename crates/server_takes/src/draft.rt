@@ -64,6 +64,7 @@ impl Draft {
             applied: self.applied,
             admitted: self.admitted,
             sent: self.sent,
+            shipped: Items::new(alloc),
             reserved: Items::new(alloc),
         }
     }

@@ -1,0 +1,17 @@
+use Rattle.std.proofs.Common.{◌≡◌, codes, refl, subst}
+use Rattle.std.specs.Prelude.{OnOk}
+use Rattle.message_json.specs.Values.{tagged}
+use Rattle.message_json.proofs.Grown.{case_grown, members_held}
+use Rattle.run_journal.specs.Steps.{part_json}
+use Rattle.run_journal.proofs.steps.put_part.Goals as goal
+
+pub returns : goal.returns
+unfolding tagged
+returns c =
+    let json = part_json c.args.fileset c.args.last in
+    let all = case_grown (codes "part") (members_held json) c.args.line.now c.begin.new.self c.field-2.new.self c.in_ok-begin.ensures (
+      c.field.new.self,
+      c.in_ok-field.ensures,
+      (c.field-2.new.self, c.in_ok-field-2.ensures, refl),
+    ) in
+    subst (λ after. OnOk c.end.result (c.end.new.self ≡ after)) all c.end.ensures
