@@ -2,7 +2,7 @@
 use Rattle.std.proofs.Common.{◌≡◌, ℕ, Bool, List, [], ◌∷◌, ◌++◌, Option, None, Some, refl, sym, ◌∙◌, ap, subst}
 use Rattle.std.specs.Prelude.{remove}
 use Rattle.tree_calls.specs.declared.part.Status.{Status}
-use Rattle.message_types.specs.declared.message.Body.{Body}
+use Rattle.message_types.specs.declared.asking.Fetch.{Fetch as FetchOf}
 use Rattle.message_types.specs.declared.message.Message.{Message}
 use Rattle.run_rules.specs.Wants.{body_of}
 use Rattle.run_rules.specs.declared.applied.Request.{Request}
@@ -85,7 +85,7 @@ module _ (came : List Message) where
 
   -- # A request is answered
 
-  granted : (x : Tables) (d : Draft) (st : StoreState) (at : ℕ) (p : Pending) (f : _) (o : Option Status)
+  granted : (x : Tables) (d : Draft) (st : StoreState) (at : ℕ) (p : Pending) (f : FetchOf) (o : Option Status)
       → (grant_made x d st at p f o).tables.pending ≡ remove x.pending at
   granted x d st at p f None = refl
   granted x d st at p f (Some status) = refl
