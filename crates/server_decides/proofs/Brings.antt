@@ -2,7 +2,9 @@
 use Rattle.std.proofs.Common.{◌≡◌, ℕ, Bool, List, [], ◌∷◌, ◌++◌, Option, None, Some, refl, sym, ◌∙◌, ap, subst}
 use Rattle.std.specs.Prelude.{remove}
 use Rattle.tree_calls.specs.declared.part.Status.{Status}
+use Rattle.message_types.specs.declared.asking.Change.{Change as ChangeOf}
 use Rattle.message_types.specs.declared.asking.Fetch.{Fetch as FetchOf}
+use Rattle.message_types.specs.declared.message.Body.TheVariants.{Change}
 use Rattle.message_types.specs.declared.message.Message.{Message}
 use Rattle.run_rules.specs.Wants.{body_of}
 use Rattle.run_rules.specs.declared.applied.Request.{Request}
@@ -44,6 +46,11 @@ module _ (came : List Message) where
   -- so was the want at a place
   pub brought_at : (ps : List Pending) (at : ℕ) (p : Pending) → IsPlaced ps at p → AreBrought came ps → IsBrought p
   brought_at ps at p place all = of_each IsBrought ps all p (placed_in ps at p place)
+
+  -- so was the Change of a want
+  pub change_brought : (w : Wanted) (c : ChangeOf) → w.request ≡ Changes c → HasBrought came w.host (body_of w.request)
+      → HasBrought came w.host (Change c)
+  change_brought w c is its = subst (λ (r : Request). HasBrought came w.host (body_of r)) is its
 
   -- the wants are the same
   same : (x y z : Tables) → y ≡ z → z.pending ≡ x.pending → AllBrought x → AllBrought y
