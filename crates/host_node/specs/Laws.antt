@@ -1,5 +1,5 @@
 -- What a host's node owes whoever drives it, whatever it does.
-use Rattle.std.proofs.Common.{◌≡◌, refl}
+use Rattle.std.proofs.Common.{◌≡◌, List, refl}
 use Rattle.hub_node.proofs.Keeping.{front_kept, may_hand_in}
 use Rattle.hub_laws.specs.Keeping.{Round}
 use Rattle.hub_node.specs.Nodes.{HandsIn, Part}

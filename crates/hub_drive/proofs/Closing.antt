@@ -80,19 +80,18 @@ module _ {N : Type 0} (tells : Type 0) (stands : Part → N → List Round → L
 given_by : (rounds : List Round) (m : Message) → In m (messages_given rounds)
     → (r : Round) × In r rounds × (r.given ≡ Some (Came m))
 given_by [] m i = absurd i
-given_by (r ∷ rounds) m i = by r.given refl i
+given_by (r ∷ rounds) m i =
+    by r.given refl i (λ j. let before = given_by rounds m j in (before.0, inr before.1, before.2))
   where
-    later : In m (messages_given rounds) → (s : Round) × In s (r ∷ rounds) × (s.given ≡ Some (Came m))
-    later j = let before = given_by rounds m j in (before.0, inr before.1, before.2)
-
     by : (g : Option Given) → r.given ≡ g → In m (message_in g ++ messages_given rounds)
+        → (In m (messages_given rounds) → (s : Round) × In s (r ∷ rounds) × (s.given ≡ Some (Came m)))
         → (s : Round) × In s (r ∷ rounds) × (s.given ≡ Some (Came m))
-    by None e j = later j
-    by (Some Begun) e j = later j
-    by (Some (Raised flag)) e j = later j
-    by (Some Lapse) e j = later j
-    by (Some (Came k)) e (inl is) = (r, inl refl, e ∙ ap (λ (x : Message). Some (Came x)) (sym is))
-    by (Some (Came k)) e (inr j) = later j
+    by None e j later = later j
+    by (Some Begun) e j later = later j
+    by (Some (Raised flag)) e j later = later j
+    by (Some Lapse) e j later = later j
+    by (Some (Came k)) e (inl is) later = (r, inl refl, e ∙ ap (λ (x : Message). Some (Came x)) (sym is))
+    by (Some (Came k)) e (inr j) later = later j
 
 module _ {N : Type 0} (tells : Type 0) (stands : Part → N → List Round → List Step → Type 0)
     (script : Script) (start : Tree) (epochs : List ℕ) (can : CanStart script start epochs)

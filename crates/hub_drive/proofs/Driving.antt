@@ -383,12 +383,11 @@ pub held_by : {N : Type 0} (tells : Type 0) (stands : Part → N → List Round 
     → passes ≡ map (λ (s : Seat N). s.pass) seats → ((turns : List Turn) × HasEnded hub turns passes)
     → (journal : Journal) × HasStopped tells stands stays failed broken script start epochs nodes journal
 held_by {N} tells stands stays failed broken hands_in script start epochs can hub hub_is seats are stood nodes passes
-sit have
-    ended =
+    sit have ended =
     let journal : Journal = record { start = start ∷ []; epochs = epochs; steps = steps_of ended.0 } in (
       journal,
       stopped_by tells stands stays failed broken hands_in script start epochs can hub hub_is seats are stood nodes
-      passes sit
+          passes sit
           have journal (ended.0, ended.1, record { starts = refl; epochs_are = refl; steps = refl }),
     )
 

@@ -47,7 +47,7 @@ module _ (server : ServerId) (roster : Roster) where
   abbrev AllCame : List Pending → Type 0
   AllCame ps = Each (λ (p : Pending). CameSo server roster p.wanted) ps
 
-  asked : (ps : List Pending) → AllCame ps → List Message
+  abbrev asked : (ps : List Pending) → AllCame ps → List Message
   asked [] e = []
   asked (p ∷ ps) e = e.0.m ∷ asked ps e.1
 

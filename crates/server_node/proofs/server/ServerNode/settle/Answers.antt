@@ -39,3 +39,12 @@ returns-in-Err-clause-failed g c = λ e.
 pub returns-in-Err-clause-went : goal.returns-in-Err-clause-went
 returns-in-Err-clause-went g c tells came all = λ from h.
     let so = c.loop.invariant.gone tells came all in c.settle_once.ensures.went tells came so.1 from (so.0 from h)
+
+pub returns-then-is_rested-clause-went : goal.returns-then-is_rested-clause-went
+returns-then-is_rested-clause-went g c tells came all = (c.loop.invariant.gone tells came all).0
+
+pub returns-then-is_rested-clause-all : goal.returns-then-is_rested-clause-all
+returns-then-is_rested-clause-all g c tells came all = (c.loop.invariant.gone tells came all).1
+
+pub returns-clause-went : goal.returns-clause-went
+returns-clause-went g c tells came all = (c.loop.invariant.gone tells came all).0

@@ -42,9 +42,9 @@ loop-self-preserved g c = record {
       c.in-Ok.ensures.works part past came lapses now.0 now.1);
   gone = (λ tells came all.
       let so = c.loop-self.invariant.gone tells came all in (
-        (λ from h. c.gather_next.ensures.went tells came so.1.0 so.1.1 from (so.0 from h)),
-        c.in-Ok.ensures.all tells came so.1.0 so.1.1,
-        c.in-Ok.ensures.done_for came so.1.0.1 so.1.1,
+        (λ from h. c.gather_next.ensures.went tells came so.1 so.2 from (so.0 from h)),
+        c.in-Ok.ensures.all tells came so.1 so.2,
+        c.in-Ok.ensures.done_for came so.1.1 so.2,
       ));
   stays = stays_on g.S.Store.tells g.S.Store.view c.args.self.now c.loop-self.self c.gather_next.new.self
       c.loop-self.invariant.stays c.gather_next.ensures.stays;
@@ -94,14 +94,14 @@ returns-clause-failed g c = λ e.
 pub returns-in-Err-clause-went : goal.returns-in-Err-clause-went
 returns-in-Err-clause-went g c tells came all = λ from h.
     let so = c.loop-self.invariant.gone tells came all in
-    c.gather_next.ensures.went tells came so.1.0 so.1.1 from (so.0 from h)
+    c.gather_next.ensures.went tells came so.1 so.2 from (so.0 from h)
 
 pub returns-clause-went : goal.returns-clause-went
 returns-clause-went g c tells came all = λ from h.
-    let so = c.loop-self.invariant.gone tells came all in c.store.ensures.went tells came so.1.1 from (so.0 from h)
+    let so = c.loop-self.invariant.gone tells came all in c.store.ensures.went tells came so.2 from (so.0 from h)
 
 pub returns-clause-all : goal.returns-clause-all
 returns-clause-all g c tells came all =
     let so = c.loop-self.invariant.gone tells came all in
     all_ok c.store.result
-    (subst (λ (z : ServerNode g.row.S.Denot). HasAllOf came z) (sym c.store.ensures.rest) so.1.0)
+    (subst (λ (z : ServerNode g.row.S.Denot). HasAllOf came z) (sym c.store.ensures.rest) so.1)
