@@ -13,8 +13,16 @@ ghost use Rattle.store_acts.specs.declared.act.Act.TheVariants.{Do};
 ghost use Rattle.tree_calls.specs.declared.reply.Reply.TheVariants.{Refused};
 ghost use Rattle.server_looks.specs.Acts.{AreRepeatable, IsGive, IsRepeatable, doing, epoch_begun, first_reply};
 ghost use Rattle.server_looks.specs.Acts.{giving, host_noted, next_number, numbered_at, refusing};
-ghost use Rattle.server_looks.specs.Keepers.{GoesOn, HasAsked, HasBrought, HasGiven, HasTried, HasWord, IsDoneFor,
-IsFit};
+ghost use Rattle.server_looks.specs.Keepers.{
+  GoesOn,
+  HasAsked,
+  HasBrought,
+  HasGiven,
+  HasTried,
+  HasWord,
+  IsDoneFor,
+  IsFit,
+};
 
 use crate::fault::ExporterFault;
 use crate::keeper::Keeper;
