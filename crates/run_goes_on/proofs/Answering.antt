@@ -39,7 +39,7 @@ use Rattle.run_rules.specs.declared.step.Cause.TheVariants.{End, Evict, Flushed,
 use Rattle.run_rules.specs.declared.step.Cause.TheVariants.{Line, Message as Came, Restart}
 use Rattle.run_rules.specs.declared.step.Step.{Step}
 use Rattle.run_tokens.proofs.Law.{Whole}
-use Rattle.run_tokens.proofs.Words.{acts_after, if_host, if_server, own_after}
+use Rattle.run_tokens.proofs.Words.{acts_after, first_here, here_first, if_host, if_server, own_after, stay_first}
 use Rattle.run_goes_on.proofs.Arriving.{due_at, due_of, found, from_cause, from_one, host_sends, meets_at, step_on}
 use Rattle.run_goes_on.proofs.Arriving.{whole_at}
 use Rattle.run_goes_on.proofs.Claiming.{IsOnList, acts_later, own_later, waiting}
@@ -68,7 +68,7 @@ took_here : (v : ServerId) (h : HostId) (n : ℕ) (g : Give) (S : List Doing)
     → first_stay g.fid.fileset ≡ record { server = v; moves = n } → TookNow S h n (GiveBack g)
     → TookOf v S h g.fid.fileset (GiveBack g)
 took_here v h n g [] is x = elim x [ ]
-took_here v h n g (a ∷ S) is (inl x) = inl (n, is, x)
+took_here v h n g (a ∷ S) is (inl x) = inl (n, first_here v S g.fid.fileset n is, x)
 took_here v h n g (a ∷ S) is (inr x) = inr (took_here v h n g S is x.0, x.1)
 
 -- # What a server said by Gone in its epoch it took in it
@@ -545,6 +545,7 @@ module _ (script : Script) (start : Tree) (firsts : ServerId → ℕ) (real : (v
         stay : first_stay k.0.fid.fileset ≡ record { server = v; moves = k.1 }
         stay =
             let whole_run = all [] run refl in
+            stay_first (own run) k.0.fid.fileset v k.1
             ((whole_run.alone host).said_made k.0 v (epoch (acts run)) k.1
             (((whole_run.at v).link host).took k.1 (GiveBack k.0) at_end)).1
 
@@ -595,7 +596,7 @@ module _ (script : Script) (start : Tree) (firsts : ServerId → ℕ) (real : (v
             applied_at : (u : ServerId) (T : List Doing) → IsApplied u T host (number_of g)
                 → (n : ℕ) × (first_stay g.fid.fileset ≡ record { server = u; moves = n })
             applied_at u [] x = elim x [ ]
-            applied_at u (a ∷ T) (inl x) = let t = x.1 in (t.0, t.1)
+            applied_at u (a ∷ T) (inl x) = let t = x.1 in (t.0, here_first u T g.fid.fileset t.0 t.1)
             applied_at u (a ∷ T) (inr x) = applied_at u T x
 
             -- a Reclaimed that names it is another server's, or answers the claim

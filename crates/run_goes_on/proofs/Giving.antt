@@ -37,7 +37,7 @@ use Rattle.run_rules.specs.declared.step.Step.{Step}
 use Rattle.run_tokens.proofs.Invariant.{Alone}
 use Rattle.run_tokens.proofs.Law.{Whole, always}
 use Rattle.run_tokens.proofs.TokenRun.{token_run}
-use Rattle.run_tokens.proofs.Words.{if_host, made_left, own_after}
+use Rattle.run_tokens.proofs.Words.{first_here, if_host, made_left, own_after, stay_first}
 use Rattle.run_goes_on.proofs.Arriving.{due_at, due_of, found, from_one, host_sends, meets_at, whole_at}
 use Rattle.run_goes_on.proofs.Calls.{outstanding_of}
 use Rattle.run_goes_on.proofs.Doings.{Knows, epoch_after_cause, heard, knows}
@@ -324,7 +324,7 @@ module _ (script : Script) (start : Tree) (firsts : ServerId → ℕ) (real : (v
         may = (subst (λ (k : Node). StepMeets script start firsts k past s) node (met later (s ∷ past) e).1.0).0
 
         stays : first_stay g.fid.fileset ≡ record { server = to; moves = mv }
-        stays = (may.tokens.gives g to ep mv sends).1
+        stays = stay_first (s ∷ own past) g.fid.fileset to mv (may.tokens.gives g to ep mv sends).1
 
         to_v : to ≡ v
         to_v = sym (ap (λ (y : Stay). y.server) stays)
@@ -373,8 +373,9 @@ module _ (script : Script) (start : Tree) (firsts : ServerId → ℕ) (real : (v
 
             is_here : Here v (acts c.before) g.fid.fileset m.moves
             is_here =
-                subst (λ (y : ServerId × ℕ). first_stay g.fid.fileset ≡ record { server = y.0; moves = y.1 })
-                (λ i. (to_v i, sym sends.4 i)) stays
+                first_here v (acts c.before) g.fid.fileset m.moves
+                (subst (λ (y : ServerId × ℕ). first_stay g.fid.fileset ≡ record { server = y.0; moves = y.1 })
+                (λ i. (to_v i, sym sends.4 i)) stays)
 
         taken_none : {t : Step} → Cut (s ∷ past) later t → t.cause ≡ Came m → ⊥
         taken_none {t = t} c cause = go t.node refl (met c.after (t ∷ c.before) (whole_cut start_at c)).1.0

@@ -20,7 +20,7 @@ use Rattle.message_types.specs.declared.message.Direction.TheVariants.{ToHost, T
 use Rattle.message_types.specs.declared.message.Message.{Message}
 use Rattle.message_types.specs.declared.tokens.Named.{Named}
 use Rattle.message_types.specs.declared.tokens.Revoke.{Revoke as RevokeOf}
-use Rattle.run_rules.specs.Doings.{Doing, Enlists, Granted, HasReclaimed, InEpoch, IsLive, Issued, Issues, Pinned}
+use Rattle.run_rules.specs.Doings.{Doing, Enlists, Granted, HasReclaimed, Here, InEpoch, IsLive, Issued, Issues, Pinned}
 use Rattle.run_rules.specs.Doings.{SentNow, StayStamp, after_admitting, after_cause, after_deciding}
 use Rattle.run_rules.specs.Doings.{after_step, doings_of, epoch, sending}
 use Rattle.run_rules.specs.Doings.Doing.{Admits, BeginsEpoch, Flushes, MakesWant, Reserves, Sent, Took, WritesDown}
@@ -42,7 +42,7 @@ use Rattle.run_rules.specs.declared.step.Cause.TheVariants.{Line, Message as Cam
 use Rattle.run_rules.specs.declared.step.Labelled.{Labelled}
 use Rattle.run_rules.specs.declared.step.Step.{Step}
 use Rattle.run_tokens.proofs.Law.{Whole}
-use Rattle.run_tokens.proofs.Words.{acts_after, if_host, if_server, own_after}
+use Rattle.run_tokens.proofs.Words.{acts_after, first_here, here_first, if_host, if_server, own_after, stay_first}
 use Rattle.run_goes_on.proofs.Arriving.{cause_on, due_at, due_of, found, from_one, meets_at, step_on, whole_at}
 use Rattle.run_goes_on.proofs.Doings.{Knows, epoch_after_cause, epoch_step, knows, reclaimed_by, sent_so}
 use Rattle.run_goes_on.proofs.Giving.{gives_are_known}
@@ -528,7 +528,7 @@ module _ (script : Script) (start : Tree) (firsts : ServerId → ℕ) (real : (v
           (ap (λ (b : Body). resender_by b sends.0) sends.5) takes
         where
           stays : first_stay named.fid.fileset ≡ record { server = w; moves = n }
-          stays = may.tokens.answers named w e n (inl sends)
+          stays = stay_first (x ∷ own p) named.fid.fileset w n (may.tokens.answers named w e n (inl sends))
 
           to_v : w ≡ v
           to_v = sym (ap (λ (y : Stay). y.server) stays) ∙ at_v
@@ -541,10 +541,11 @@ module _ (script : Script) (start : Tree) (firsts : ServerId → ℕ) (real : (v
                 | inr old ↦ old.2 (inl (named, (sends.0.moves, here, (path, lives (y ∷ q) m b.has)), i))
               ]
             where
-              here : first_stay named.fid.fileset ≡ record { server = v; moves = sends.0.moves }
+              here : Here v (acts m) named.fid.fileset sends.0.moves
               here =
-                  subst (λ (z : ServerId × ℕ). first_stay named.fid.fileset ≡ record { server = z.0; moves = z.1 })
-                  (λ j. (to_v j, sym sends.4 j)) stays
+                  first_here v (acts m) named.fid.fileset sends.0.moves
+                  (subst (λ (z : ServerId × ℕ). first_stay named.fid.fileset ≡ record { server = z.0; moves = z.1 })
+                  (λ j. (to_v j, sym sends.4 j)) stays)
 
               path : Took sends.0.host sends.0.epoch sends.0.moves sends.0.body
                   ≡ Took t.host (epoch (acts m)) sends.0.moves (Returned named)
@@ -580,7 +581,9 @@ module _ (script : Script) (start : Tree) (firsts : ServerId → ℕ) (real : (v
               ∙ (ap (λ (u : Token). home u.fid.fileset) held_t ∙ fid_v)
 
           stays : first_stay keeps.3.fid.fileset ≡ record { server = keeps.0; moves = keeps.2 }
-          stays = may.tokens.answers keeps.3 keeps.0 keeps.1 keeps.2 (inr keeps.4)
+          stays =
+              stay_first (x ∷ own p) keeps.3.fid.fileset keeps.0 keeps.2
+              (may.tokens.answers keeps.3 keeps.0 keeps.1 keeps.2 (inr keeps.4))
 
           to_v : keeps.0 ≡ v
           to_v = sym (ap (λ (y : Stay). y.server) stays) ∙ at_v
@@ -616,10 +619,11 @@ module _ (script : Script) (start : Tree) (firsts : ServerId → ℕ) (real : (v
               keeping : Keeps v t b.has.mark (after_cause (Came keeps.4.0) (acts m)) (acts run)
               keeping = keeps_came q m y b at keeps.4.0 cause
 
-              here : first_stay keeps.3.fid.fileset ≡ record { server = v; moves = keeps.4.0.moves }
+              here : Here v (acts m) keeps.3.fid.fileset keeps.4.0.moves
               here =
-                  subst (λ (z : ServerId × ℕ). first_stay keeps.3.fid.fileset ≡ record { server = z.0; moves = z.1 })
-                  (λ j. (to_v j, sym keeps.4.4 j)) stays
+                  first_here v (acts m) keeps.3.fid.fileset keeps.4.0.moves
+                  (subst (λ (z : ServerId × ℕ). first_stay keeps.3.fid.fileset ≡ record { server = z.0; moves = z.1 })
+                  (λ j. (to_v j, sym keeps.4.4 j)) stays)
 
               path : Took keeps.4.0.host keeps.4.0.epoch keeps.4.0.moves keeps.4.0.body
                   ≡ Took t.host (epoch (acts m)) keeps.4.0.moves (Kept keeps.3)
@@ -639,8 +643,9 @@ module _ (script : Script) (start : Tree) (firsts : ServerId → ℕ) (real : (v
 
         file_here : first_stay k.revoke.fid.fileset ≡ record { server = v; moves = k.sent.0.moves }
         file_here =
-            sent_from.1.revokes_here k.sent.0.host k.sent.0.epoch k.sent.0.moves k.revoke
-            (λ j. Sent k.sent.0.host k.sent.0.epoch k.sent.0.moves (k.sent.3 j))
+            here_first v sent_from.0 k.revoke.fid.fileset k.sent.0.moves
+            (sent_from.1.revokes_here k.sent.0.host k.sent.0.epoch k.sent.0.moves k.revoke
+            (λ j. Sent k.sent.0.host k.sent.0.epoch k.sent.0.moves (k.sent.3 j)))
 
         file_v : home k.revoke.fid.fileset ≡ v
         file_v = ap (λ (y : Stay). y.server) file_here

@@ -1,6 +1,6 @@
 -- How the words follow from one another.
 use Rattle.run_rules.specs.Doings.{BringsTokens, Doing, GivenUp, Here, IsApplied, StayStamp, TookOf, after_step}
-use Rattle.run_rules.specs.Messages.{Said, Stay, epoch_at, epoch_raised, epoch_raised_by, home}
+use Rattle.run_rules.specs.Messages.{Said, Stay, StaysAt, epoch_at, epoch_raised, epoch_raised_by, first_stay, home}
 use Rattle.run_rules.specs.Past.{In}
 use Rattle.run_rules.specs.Steps.{is_node}
 use Rattle.run_rules.specs.Tokens.{Made, number_of}
@@ -91,6 +91,23 @@ never_moved v S fs n here = ap (λ (p : Stay). p.moves) here
 
 pub stays_here : (v : ServerId) (S : List Doing) (fs : FilesetId) → home fs ≡ v → Here v S fs 0
 stays_here v S fs at = λ i. record { server = at i; moves = 0 }
+
+-- what is here is where it was made, in its first stay, and so it is where a host takes a fileset to be
+pub here_first : (v : ServerId) (S : List Doing) (fs : FilesetId) (n : ℕ) → Here v S fs n
+    → first_stay fs ≡ record { server = v; moves = n }
+here_first v S fs n here = here
+
+pub first_here : (v : ServerId) (S : List Doing) (fs : FilesetId) (n : ℕ)
+    → first_stay fs ≡ record { server = v; moves = n } → Here v S fs n
+first_here v S fs n first = first
+
+pub stay_first : (A : List Step) (fs : FilesetId) (v : ServerId) (n : ℕ) → StaysAt A fs v n
+    → first_stay fs ≡ record { server = v; moves = n }
+stay_first A fs v n stays = stays
+
+pub first_stays : (A : List Step) (fs : FilesetId) (v : ServerId) (n : ℕ)
+    → first_stay fs ≡ record { server = v; moves = n } → StaysAt A fs v n
+first_stays A fs v n first = first
 
 pub applied_at : (v : ServerId) (S : List Doing) (h : HostId) (n : AppliedGive) → IsApplied v S h n → home n.fileset ≡ v
 applied_at v [] h n a = elim a [ ]
