@@ -91,7 +91,7 @@ module _ (h : HostId) (e n : ℕ) (b : Body) where
   sent_split s S (inr o) = elim (split_sending s.sent (after_admitting s S) o) [
     | inr k ↦ inr k
     | inl old ↦ inl (cause_back s.cause S
-        (back_deciding (λ before a. a ≡ Sent h e n b) (λ before w q. cc) (λ before w q. cc) s.applied
+        (back_deciding (λ before a. a ≡ Sent h e n b) (λ before w q. cc) (λ before w q. cc) (λ before w q. cc) s.applied
         (after_cause s.cause S)
         (back_admitting (λ before a. a ≡ Sent h e n b) (λ before g ts q. cc) s.admitted (after_deciding s S) old)))
   ]

@@ -37,6 +37,7 @@ use Rattle.run_rules.specs.declared.applied.Written.{Written}
 use Rattle.run_rules.specs.declared.step.Cause.{Cause}
 use Rattle.run_rules.specs.declared.step.Cause.TheVariants.{End, Evict, Flushed, Freight, Lapse, Line, Message as Came}
 use Rattle.run_rules.specs.declared.step.Cause.TheVariants.{Restart}
+use Rattle.run_tokens.proofs.TokenRun.{works_none}
 use Rattle.run_rules.specs.declared.step.Step.{Step}
 
 -- what waits wasn't written down
@@ -375,7 +376,8 @@ step_told script start v steps S s m old =
     (sents v (filesets_through s.cause s.applied (filesets_kept start v steps)) s s.sent (after_admitting s S)
     m.works.sends
     m.tokens.sends (admits s.admitted (after_deciding s S)
-    (subst Told (sym (same_decisions s.applied (after_cause s.cause S)))
+    (subst Told (sym (same_decisions s.applied (after_cause s.cause S)
+    (works_none v (filesets_kept start v steps) S s m.works.applies)))
     (decides v S s (decisions s.applied) (filesets_through s.cause (by_cause s.applied) (filesets_kept start v steps))
     (after_cause s.cause S) m.works.decides (causes s.cause S old)))))
 

@@ -16,7 +16,8 @@ use Rattle.run_contents.proofs.Calls.{grows, open_last}
 use Rattle.run_answered.proofs.Told.{Told, WrittenIn, step_told, told_first}
 use Rattle.run_rules.specs.Doings.{Doing, TookNow, admitting, after_admitting, after_cause, after_deciding, after_step}
 use Rattle.run_rules.specs.Doings.{deciding, doings_of, epoch, sending}
-use Rattle.run_rules.specs.Doings.Doing.{Admits, BeginsEpoch, Flushes, MakesWant, Reserves, Sent, Took, WritesDown}
+use Rattle.run_rules.specs.Doings.Doing.{Admits, BeginsEpoch, Flushes, MakesWant, Moves, Reserves, Sent, Took}
+use Rattle.run_rules.specs.Doings.Doing.{WritesDown}
 use Rattle.run_rules.specs.Messages.{Said}
 use Rattle.run_rules.specs.Past.{EachInTurn, Once, appended}
 use Rattle.run_rules.specs.Runs.{CameToServer, StepMeets, StepsMeet}
@@ -63,6 +64,7 @@ epoch_on (WritesDown w) S none = refl
 epoch_on (Admits h ts) S none = refl
 epoch_on (Sent h e n b) S none = refl
 epoch_on (Reserves ts) S none = refl
+epoch_on (Moves move) S none = refl
 
 pub took_now : (S : List Doing) (h : HostId) (n : ℕ) (b : Body) → TookNow S h n b → TookIt S h (epoch S) n b
 took_now [] h n b t = elim t [ ]
@@ -131,7 +133,8 @@ asked_decides v (IsDone x ∷ xs) S may old =
 asked_decides v (Replied x ∷ xs) S may old = asked_decides v xs S may old
 asked_decides v (Stored h f ss n ∷ xs) S may old = asked_decides v xs S may old
 asked_decides v (IsDown h ∷ xs) S may old = asked_decides v xs S may old
-asked_decides v (IsMoved move ∷ xs) S may old = asked_decides v xs S may old
+asked_decides v (IsMoved move ∷ xs) S may old =
+    asked_decides v xs (Moves move ∷ S) may.1 (on (Moves move) S (λ w e. cc) old)
 
 asked_admits : (cs : List Admission) (S : List Doing) → AllAsked S → AllAsked (appended (admitting cs) S)
 asked_admits [] S old = old
@@ -234,7 +237,7 @@ module _ (script : Script) (start : Tree) (firsts : ServerId → ℕ) (real : (v
     step_heard v past s S came old (inl t) = absurd (let z : Reserves s.reserved ≡ Took h e n b = t in cc)
     step_heard v past s S came old (inr o) =
         cause_heard v past s S came old
-        (back_deciding (λ before a. a ≡ Took h e n b) (λ before w t. cc) (λ before w t. cc) s.applied
+        (back_deciding (λ before a. a ≡ Took h e n b) (λ before w t. cc) (λ before w t. cc) (λ before w t. cc) s.applied
         (after_cause s.cause S)
         (back_admitting (λ before a. a ≡ Took h e n b) (λ before g ts t. cc) s.admitted (after_deciding s S)
         (back_sending (λ before a. a ≡ Took h e n b) (λ before g d m c t. cc) s.sent (after_admitting s S) o)))

@@ -18,7 +18,8 @@ use Rattle.token_types.specs.declared.token.Token.{Token}
 use Rattle.tree_laws.specs.Parts.{Part}
 use Rattle.run_rules.specs.Doings.{Doing, SentTo, TookNow, admitting, after_admitting, after_cause, after_deciding}
 use Rattle.run_rules.specs.Doings.{after_sending, after_step, deciding, doings_of, epoch, sending}
-use Rattle.run_rules.specs.Doings.Doing.{Admits, BeginsEpoch, Flushes, MakesWant, Reserves, Sent, Took, WritesDown}
+use Rattle.run_rules.specs.Doings.Doing.{Admits, BeginsEpoch, Flushes, MakesWant, Moves, Reserves, Sent, Took}
+use Rattle.run_rules.specs.Doings.Doing.{WritesDown}
 use Rattle.run_rules.specs.Messages.{Said}
 use Rattle.run_rules.specs.Past.{In, appended}
 use Rattle.run_rules.specs.Runs.{CameToServer, StepMeets, StepsMeet}
@@ -103,7 +104,7 @@ writes (IsDone x ∷ xs) S old = writes xs (WritesDown x ∷ S) (other S (Writes
 writes (Replied x ∷ xs) S old = writes xs S old
 writes (Stored h f ss n ∷ xs) S old = writes xs S old
 writes (IsDown h ∷ xs) S old = writes xs S old
-writes (IsMoved move ∷ xs) S old = writes xs S old
+writes (IsMoved move ∷ xs) S old = writes xs (Moves move ∷ S) (other S (Moves move) (λ h e n b q. cc) old)
 
 causes : (c : Cause) (S : List Doing) → Sensible S → Sensible (after_cause c S)
 causes (Came m) S old = other S (Took m.host m.epoch m.moves m.body) (λ h e n b q. cc) old
@@ -159,7 +160,7 @@ module _ (h : HostId) (e n : ℕ) (b : Body) where
   not_written (Replied x ∷ xs) S i = not_written xs S i
   not_written (Stored k f ss l ∷ xs) S i = not_written xs S i
   not_written (IsDown k ∷ xs) S i = not_written xs S i
-  not_written (IsMoved move ∷ xs) S i = not_written xs S i
+  not_written (IsMoved move ∷ xs) S i = elim (not_written xs (Moves move ∷ S) i) [ inl q ↦ absurd (cc) | inr k ↦ k ]
 
   by_cause : (c : Cause) (S : List Doing) → In (Took h e n b) (after_cause c S)
       → ((m : Message) × (c ≡ Came m) × (Took h e n b ≡ Took m.host m.epoch m.moves m.body)) ⊎ In (Took h e n b) S

@@ -15,7 +15,8 @@ use Rattle.script_lines.specs.declared.script.Script.{Script}
 use Rattle.token_types.specs.declared.token.Token.{Token}
 use Rattle.run_rules.specs.Doings.{Doing, Granted, IsNewlyGranted, admitting, after_admitting, after_cause}
 use Rattle.run_rules.specs.Doings.{after_deciding, after_sending, after_step, deciding, doings_of, epoch, sending}
-use Rattle.run_rules.specs.Doings.Doing.{Admits, BeginsEpoch, Flushes, MakesWant, Reserves, Sent, Took, WritesDown}
+use Rattle.run_rules.specs.Doings.Doing.{Admits, BeginsEpoch, Flushes, MakesWant, Moves, Reserves, Sent, Took}
+use Rattle.run_rules.specs.Doings.Doing.{WritesDown}
 use Rattle.run_rules.specs.Messages.{Said}
 use Rattle.run_rules.specs.Past.{EachInTurn, In, appended}
 use Rattle.run_rules.specs.Runs.{StepMeets, StepsMeet, firsts_of, past_of}
@@ -102,7 +103,8 @@ module _ (script : Script) (v : ServerId) where
   writes (Replied x ∷ xs) S old = writes xs S old
   writes (Stored h f ss n ∷ xs) S old = writes xs S old
   writes (IsDown h ∷ xs) S old = writes xs S old
-  writes (IsMoved move ∷ xs) S old = writes xs S old
+  writes (IsMoved move ∷ xs) S old =
+      writes xs (Moves move ∷ S) (other S (Moves move) (dull (Moves move) (λ h e n b q. cc) (λ h ts q. cc)) old)
 
   pub plain : (S : List Doing) (a : Doing) → ((h : HostId) (e n : ℕ) (b : Body) → a ≡ Sent h e n b → ⊥)
       → ((h : HostId) (ts : List Token) → a ≡ Admits h ts → ⊥) → AllGood S → AllGood (a ∷ S)
@@ -134,7 +136,8 @@ module _ (script : Script) (v : ServerId) where
     said_written (Replied x ∷ xs) S old = said_written xs S old
     said_written (Stored h f ss n ∷ xs) S old = said_written xs S old
     said_written (IsDown h ∷ xs) S old = said_written xs S old
-    said_written (IsMoved move ∷ xs) S old = said_written xs S old
+    said_written (IsMoved move ∷ xs) S old =
+        said_written xs (Moves move ∷ S) (on_said S (Moves move) (λ h e n b q. cc) old)
 
     admits_one : (S : List Doing) (h : HostId) (ts : List Token) → MayAdmit v S h ts → AllSaid S → (t : Token) → In t ts
         → Good t

@@ -39,7 +39,9 @@ use Rattle.run_rules.specs.declared.step.Cause.TheVariants.{End, Evict, Flushed,
 use Rattle.run_rules.specs.declared.step.Cause.TheVariants.{Line, Message as Came, Restart}
 use Rattle.run_rules.specs.declared.step.Step.{Step}
 use Rattle.run_tokens.proofs.Law.{Whole}
-use Rattle.run_tokens.proofs.Words.{acts_after, first_here, here_first, if_host, if_server, own_after, stay_first}
+use Rattle.run_tokens.proofs.Unmoved.{here_is, here_was}
+use Rattle.run_tokens.proofs.Words.{acts_after, if_host, if_server, own_after, stay_first}
+use Rattle.run_tokens.specs.Unmoved.{StaysPut}
 use Rattle.run_goes_on.proofs.Arriving.{due_at, due_of, found, from_cause, from_one, host_sends, meets_at, step_on}
 use Rattle.run_goes_on.proofs.Arriving.{whole_at}
 use Rattle.run_goes_on.proofs.Claiming.{IsOnList, acts_later, own_later, waiting}
@@ -64,12 +66,12 @@ of_takes : (v : ServerId) (h : HostId) (g : Give) (S : List Doing) (a : Doing)
 of_takes v h g S a x = (h, epoch S, x.0, GiveBack g, x.2.0)
 
 -- it was of a fileset that is here
-took_here : (v : ServerId) (h : HostId) (n : ℕ) (g : Give) (S : List Doing)
+took_here : (v : ServerId) (h : HostId) (n : ℕ) (g : Give) (S : List Doing) → StaysPut S
     → first_stay g.fid.fileset ≡ record { server = v; moves = n } → TookNow S h n (GiveBack g)
     → TookOf v S h g.fid.fileset (GiveBack g)
-took_here v h n g [] is x = elim x [ ]
-took_here v h n g (a ∷ S) is (inl x) = inl (n, first_here v S g.fid.fileset n is, x)
-took_here v h n g (a ∷ S) is (inr x) = inr (took_here v h n g S is x.0, x.1)
+took_here v h n g [] put is x = elim x [ ]
+took_here v h n g (a ∷ S) put is (inl x) = inl (n, here_was v S g.fid.fileset n (λ o. put (inr o)) is, x)
+took_here v h n g (a ∷ S) put is (inr x) = inr (took_here v h n g S (λ o. put (inr o)) is x.0, x.1)
 
 -- # What a server said by Gone in its epoch it took in it
 module _ (script : Script) (start : Tree) (firsts : ServerId → ℕ) (host : HostId) (v : ServerId) where
@@ -480,7 +482,7 @@ module _ (script : Script) (start : Tree) (firsts : ServerId → ℕ) (real : (v
         → f.step.cause ≡ Came w → w.server ≡ home g.fid.fileset
         → w.epoch ≡ epoch_at (own f.before) (home g.fid.fileset) → w.body ≡ Gone (number_of g)
         → (k : Give) × TookOf v (acts run) host k.fid.fileset (GiveBack k) × (number_of k ≡ number_of g)
-    gone_taken g at_v ends f w cause server epoch_is body = (k.0, took_here v host k.1 k.0 (acts run) stay at_end, k.3)
+    gone_taken g at_v ends f w cause server epoch_is body = (k.0, took_here v host k.1 k.0 (acts run) ((all [] run refl).at v).served.put stay at_end, k.3)
       where
         whole : appended (f.step ∷ f.later_on) f.before ≡ run
         whole = f.at.whole
@@ -593,11 +595,12 @@ module _ (script : Script) (start : Tree) (firsts : ServerId → ℕ) (real : (v
               (answered f u answer w cause server epoch_is moves body among)
         ]
           where
-            applied_at : (u : ServerId) (T : List Doing) → IsApplied u T host (number_of g)
+            applied_at : (u : ServerId) (T : List Doing) → StaysPut T → IsApplied u T host (number_of g)
                 → (n : ℕ) × (first_stay g.fid.fileset ≡ record { server = u; moves = n })
-            applied_at u [] x = elim x [ ]
-            applied_at u (a ∷ T) (inl x) = let t = x.1 in (t.0, here_first u T g.fid.fileset t.0 t.1)
-            applied_at u (a ∷ T) (inr x) = applied_at u T x
+            applied_at u [] put x = elim x [ ]
+            applied_at u (a ∷ T) put (inl x) =
+                let t = x.1 in (t.0, here_is u T g.fid.fileset t.0 (λ o. put (inr o)) t.1)
+            applied_at u (a ∷ T) put (inr x) = applied_at u T (λ o. put (inr o)) x
 
             -- a Reclaimed that names it is another server's, or answers the claim
             answered : (f : Learnt g) (u : ServerId) (answer : ReclaimedOf) (w : Message) → f.step.cause ≡ Came w
@@ -629,6 +632,7 @@ module _ (script : Script) (start : Tree) (firsts : ServerId → ℕ) (real : (v
                 is_v : u ≡ v
                 is_v =
                     let k = applied_at u (doings_of (firsts u) u f.before)
+                    ((all (f.step ∷ f.later_on) f.before whole).at u).served.put
                     (((all (f.step ∷ f.later_on) f.before whole).at u).served.reclaimed host w.epoch w.moves answer
                     (number_of g) sent among) in
                     sym (ap (λ (y : Stay). y.server) k.1) ∙ at_v

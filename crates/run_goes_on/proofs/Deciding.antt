@@ -55,6 +55,7 @@ use Rattle.run_tokens.proofs.Law.{always}
 use Rattle.run_tokens.proofs.TokenRun.{token_run}
 use Rattle.run_tokens.proofs.Words.{acts_after, if_server}
 use Rattle.run_goes_on.proofs.Positions.{own_run}
+use Rattle.run_tokens.proofs.TokenRun.{works_none}
 use Rattle.run_goes_on.proofs.Requests.{decides_not}
 
 -- # What wants need
@@ -114,7 +115,8 @@ need_step : (script : Script) (start : Tree) (v : ServerId) (steps : List Step) 
 need_step script start v steps S s m old =
     on (after_sending s S) (Reserves s.reserved) (λ w e. cc)
     (sends s.sent (after_admitting s S) (admits s.admitted (after_deciding s S)
-    (subst AllNeed (sym (same_decisions s.applied (after_cause s.cause S)))
+    (subst AllNeed (sym (same_decisions s.applied (after_cause s.cause S)
+    (works_none v (filesets_kept start v steps) S s m.works.applies)))
     (decides v S s (decisions s.applied) (filesets_through s.cause (by_cause s.applied) (filesets_kept start v steps))
     (after_cause s.cause S) m.works.decides (causes s.cause S old)))))
 

@@ -17,7 +17,8 @@ use Rattle.message_types.specs.declared.telling.Done.{Done as DoneOf}
 use Rattle.run_rules.specs.Doings.{Doing, HasReclaimed, InEpoch, IsNewEpoch, Issued, Issues, Listed, ListedNow}
 use Rattle.run_rules.specs.Doings.{SentTo, StayStamp, TookNow, admitting, after_admitting, after_cause, after_deciding}
 use Rattle.run_rules.specs.Doings.{after_sending, after_step, deciding, doings_of, epoch, sending}
-use Rattle.run_rules.specs.Doings.Doing.{Admits, BeginsEpoch, Flushes, MakesWant, Reserves, Sent, Took, WritesDown}
+use Rattle.run_rules.specs.Doings.Doing.{Admits, BeginsEpoch, Flushes, MakesWant, Moves, Reserves, Sent, Took}
+use Rattle.run_rules.specs.Doings.Doing.{WritesDown}
 use Rattle.run_rules.specs.Messages.{Said}
 use Rattle.run_rules.specs.Past.{EachInTurn, In, Once, appended}
 use Rattle.run_rules.specs.Runs.{CameToServer, StepMeets, StepsMeet}
@@ -31,6 +32,8 @@ use Rattle.run_rules.specs.declared.step.Cause.{Cause}
 use Rattle.run_rules.specs.declared.step.Cause.TheVariants.{End, Evict, Flushed, Freight, Lapse}
 use Rattle.run_rules.specs.declared.step.Cause.TheVariants.{Line, Message as Came, Restart}
 use Rattle.run_rules.specs.declared.step.Step.{Step}
+use Rattle.run_tokens.specs.Unmoved.{StaysPut}
+use Rattle.run_tokens.proofs.Unmoved.{put_on}
 use Rattle.run_tokens.proofs.Words.{acts_after, if_host, if_server, own_after}
 
 -- # Epochs
@@ -44,6 +47,7 @@ epoch_on (WritesDown w) S none = refl
 epoch_on (Admits h ts) S none = refl
 epoch_on (Sent h e n b) S none = refl
 epoch_on (Reserves ts) S none = refl
+epoch_on (Moves move) S none = refl
 
 epoch_deciding : (xs : List Applied) (S : List Doing) → epoch (appended (deciding xs) S) ≡ epoch S
 epoch_deciding [] S = refl
@@ -52,7 +56,7 @@ epoch_deciding (IsDone w ∷ xs) S = epoch_deciding xs (WritesDown w ∷ S)
 epoch_deciding (Replied x ∷ xs) S = epoch_deciding xs S
 epoch_deciding (Stored h f ss n ∷ xs) S = epoch_deciding xs S
 epoch_deciding (IsDown h ∷ xs) S = epoch_deciding xs S
-epoch_deciding (IsMoved move ∷ xs) S = epoch_deciding xs S
+epoch_deciding (IsMoved move ∷ xs) S = epoch_deciding xs (Moves move ∷ S)
 
 epoch_admitting : (cs : List Admission) (S : List Doing) → epoch (appended (admitting cs) S) ≡ epoch S
 epoch_admitting [] S = refl
@@ -93,22 +97,29 @@ epoch_after_step s S =
 sent_in_turn : (v : ServerId) (ms : List Message) (S : List Doing) → EachInTurn (ServerTokens v) (sending ms) S
     → (m : Message) → In m ms
     → (mid : List Doing) × ServerTokens v mid (Sent m.host m.epoch m.moves m.body) × (epoch mid ≡ epoch S)
+    × (StaysPut S → StaysPut mid)
 sent_in_turn v [] S may m i = elim i [ ]
 sent_in_turn v (x ∷ ms) S may m (inl q) = (
   S,
   subst (λ (y : Message). ServerTokens v S (Sent y.host y.epoch y.moves y.body)) (sym q) may.0,
   refl,
+  λ put. put,
 )
 sent_in_turn v (x ∷ ms) S may m (inr i) =
-    let k = sent_in_turn v ms (Sent x.host x.epoch x.moves x.body ∷ S) may.1 m i in (k.0, k.1, k.2)
+    let k = sent_in_turn v ms (Sent x.host x.epoch x.moves x.body ∷ S) may.1 m i in (
+      k.0,
+      k.1,
+      k.2,
+      λ put. k.3 (put_on (Sent x.host x.epoch x.moves x.body) S (λ p. let q = p.1 in cc) put),
+    )
 
 -- it carries the server's epoch, once the step has taken its cause
 pub sent_so : (v : ServerId) (s : Step) (S : List Doing) → ServerStep v S s → (m : Message) → In m s.sent
     → (mid : List Doing) × ServerTokens v mid (Sent m.host m.epoch m.moves m.body)
-    × (m.epoch ≡ epoch (after_cause s.cause S))
+    × (m.epoch ≡ epoch (after_cause s.cause S)) × (StaysPut (after_admitting s S) → StaysPut mid)
 sent_so v s S may m i =
     let k = sent_in_turn v s.sent (after_admitting s S) may.sends m i in
-    (k.0, k.1, k.1.epochs m.host m.epoch m.moves m.body refl ∙ (k.2 ∙ epoch_before_sending s S))
+    (k.0, k.1, k.1.epochs m.host m.epoch m.moves m.body refl ∙ (k.2 ∙ epoch_before_sending s S), k.3)
 
 -- # The list of hosts, tokens and claims
 
@@ -227,7 +238,8 @@ module _ (v : ServerId) (h : HostId) where
   decides (Replied x ∷ xs) S old = decides xs S old
   decides (Stored k f ss n ∷ xs) S old = decides xs S old
   decides (IsDown k ∷ xs) S old = decides xs S old
-  decides (IsMoved move ∷ xs) S old = decides xs S old
+  decides (IsMoved move ∷ xs) S old =
+      decides xs (Moves move ∷ S) (on (Moves move) S (λ k e n b q. absurd (cc)) (λ k ts q. absurd (cc)) old)
 
   admits_all : (cs : List Admission) (S : List Doing) → EachInTurn (ServerTokens v) (admitting cs) S → Knows S
       → Knows (appended (admitting cs) S)
@@ -301,7 +313,10 @@ module _ (h : HostId) (e n : ℕ) (b : Body) where
   took_deciding (Replied x ∷ xs) S o = took_deciding xs S o
   took_deciding (Stored k f ss m ∷ xs) S o = took_deciding xs S o
   took_deciding (IsDown k ∷ xs) S o = took_deciding xs S o
-  took_deciding (IsMoved move ∷ xs) S o = took_deciding xs S o
+  took_deciding (IsMoved move ∷ xs) S o = elim (took_deciding xs (Moves move ∷ S) o) [
+    | inl q ↦ absurd (let z : Moves move ≡ Took h e n b = q in cc)
+    | inr k ↦ k
+  ]
 
   pub took_admitting : (cs : List Admission) (S : List Doing) → TookIt (appended (admitting cs) S) h e n b
       → TookIt S h e n b

@@ -37,7 +37,8 @@ use Rattle.run_rules.specs.declared.step.Step.{Step}
 use Rattle.run_tokens.proofs.Invariant.{Alone}
 use Rattle.run_tokens.proofs.Law.{Whole, always}
 use Rattle.run_tokens.proofs.TokenRun.{token_run}
-use Rattle.run_tokens.proofs.Words.{first_here, if_host, made_left, own_after, stay_first}
+use Rattle.run_tokens.proofs.Unmoved.{here_was}
+use Rattle.run_tokens.proofs.Words.{if_host, made_left, own_after, stay_first}
 use Rattle.run_goes_on.proofs.Arriving.{due_at, due_of, found, from_one, host_sends, meets_at, whole_at}
 use Rattle.run_goes_on.proofs.Calls.{outstanding_of}
 use Rattle.run_goes_on.proofs.Doings.{Knows, epoch_after_cause, heard, knows}
@@ -373,7 +374,7 @@ module _ (script : Script) (start : Tree) (firsts : ServerId → ℕ) (real : (v
 
             is_here : Here v (acts c.before) g.fid.fileset m.moves
             is_here =
-                first_here v (acts c.before) g.fid.fileset m.moves
+                here_was v (acts c.before) g.fid.fileset m.moves ((all (t ∷ c.after) c.before whole).at v).served.put
                 (subst (λ (y : ServerId × ℕ). first_stay g.fid.fileset ≡ record { server = y.0; moves = y.1 })
                 (λ i. (to_v i, sym sends.4 i)) stays)
 

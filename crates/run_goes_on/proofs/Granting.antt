@@ -12,7 +12,8 @@ use Rattle.message_types.specs.declared.tokens.Revoke.{Revoke as RevokeOf}
 use Rattle.run_rules.specs.Doings.{Doing, Enlists, Granted, HasReclaimed, IsNewlyGranted, Issued, Issues, Pinned}
 use Rattle.run_rules.specs.Doings.{StayStamp, admitting, after_admitting, after_cause, after_deciding, after_sending}
 use Rattle.run_rules.specs.Doings.{after_step, deciding, epoch, sending}
-use Rattle.run_rules.specs.Doings.Doing.{Admits, BeginsEpoch, Flushes, MakesWant, Reserves, Sent, Took, WritesDown}
+use Rattle.run_rules.specs.Doings.Doing.{Admits, BeginsEpoch, Flushes, MakesWant, Moves, Reserves, Sent, Took}
+use Rattle.run_rules.specs.Doings.Doing.{WritesDown}
 use Rattle.run_rules.specs.Past.{EachInTurn, In, appended}
 use Rattle.run_rules.specs.ServerTokens.{ServerStep, ServerTokens}
 use Rattle.run_rules.specs.declared.applied.Admission.{Admission}
@@ -79,7 +80,8 @@ module _ (v : ServerId) (t : Token) (x : StayStamp) where
   keep_writes (Replied y ∷ xs) S T k = keep_writes xs S T k
   keep_writes (Stored h f ss n ∷ xs) S T k = keep_writes xs S T k
   keep_writes (IsDown h ∷ xs) S T k = keep_writes xs S T k
-  keep_writes (IsMoved move ∷ xs) S T k = keep_writes xs S T k
+  keep_writes (IsMoved move ∷ xs) S T k =
+      keep_plain S T (Moves move) ((λ h e n b q. cc), (λ h ts q. cc)) (keep_writes xs (Moves move ∷ S) T k)
 
   keep_admits : (cs : List Admission) (S T : List Doing) → EachInTurn (ServerTokens v) (admitting cs) S
       → HasReclaimed S t.host → Issued S t x → Keeps (appended (admitting cs) S) T → Keeps S T

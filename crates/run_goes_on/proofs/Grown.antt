@@ -12,7 +12,8 @@ use Rattle.run_rules.specs.Doings.{Doing, Enlists, HasReclaimed, Hears, InEpoch,
 use Rattle.run_rules.specs.Doings.{admitting, after_admitting}
 use Rattle.run_rules.specs.Doings.{after_cause, after_deciding, after_sending, after_step, deciding, doings_of, epoch}
 use Rattle.run_rules.specs.Doings.{sending}
-use Rattle.run_rules.specs.Doings.Doing.{Admits, BeginsEpoch, Flushes, MakesWant, Reserves, Sent, Took, WritesDown}
+use Rattle.run_rules.specs.Doings.Doing.{Admits, BeginsEpoch, Flushes, MakesWant, Moves, Reserves, Sent, Took}
+use Rattle.run_rules.specs.Doings.Doing.{WritesDown}
 use Rattle.run_rules.specs.Past.{EachInTurn, In, Once, appended}
 use Rattle.run_rules.specs.ServerTokens.{MayAdmit, ServerTokens}
 use Rattle.run_rules.specs.declared.applied.Admission.{Admission}
@@ -27,6 +28,7 @@ use Rattle.run_rules.specs.declared.step.Cause.TheVariants.{Line, Message as Cam
 use Rattle.run_rules.specs.declared.step.Step.{Step}
 use Rattle.run_tokens.proofs.Words.{acts_after, if_server}
 use Rattle.run_goes_on.proofs.Doings.{epoch_after_cause, epoch_after_step, epoch_on, epoch_step}
+use Rattle.run_rules.specs.declared.applied.Move.{Move}
 use Rattle.run_goes_on.proofs.Positions.{doings_on, server_doings}
 
 -- # What each doing leaves so, a step leaves so
@@ -90,7 +92,8 @@ module _ (P : List Doing → Doing → Type 0) where
   in_deciding (Replied y ∷ xs) S x = in_deciding xs S x
   in_deciding (Stored h f ss n ∷ xs) S x = in_deciding xs S x
   in_deciding (IsDown h ∷ xs) S x = in_deciding xs S x
-  in_deciding (IsMoved move ∷ xs) S x = in_deciding xs S x
+  in_deciding (IsMoved move ∷ xs) S x =
+      in_deciding xs (Moves move ∷ S) (inr (x, λ k. (let z : Moves move ≡ BeginsEpoch k.0 = k.1 in cc)))
 
   pub in_admitting : (cs : List Admission) (S : List Doing) → InEpoch P S → InEpoch P (appended (admitting cs) S)
   in_admitting [] S x = x
@@ -126,7 +129,8 @@ module _ (P : List Doing → Doing → Type 0) where
 
   -- # What no want, no Change that is written down, makes so was so before those
   module _ (no_want : (S : List Doing) (w : Wanted) → P S (MakesWant w) → ⊥)
-      (no_write : (S : List Doing) (w : Written) → P S (WritesDown w) → ⊥) where
+      (no_write : (S : List Doing) (w : Written) → P S (WritesDown w) → ⊥)
+      (no_move : (S : List Doing) (move : Move) → P S (Moves move) → ⊥) where
     pub back_deciding : (xs : List Applied) (S : List Doing) → InEpoch P (appended (deciding xs) S) → InEpoch P S
     back_deciding [] S x = x
     back_deciding (IsWanted w ∷ xs) S x = elim (back_deciding xs (MakesWant w ∷ S) x) [
@@ -140,7 +144,10 @@ module _ (P : List Doing → Doing → Type 0) where
     back_deciding (Replied y ∷ xs) S x = back_deciding xs S x
     back_deciding (Stored h f ss n ∷ xs) S x = back_deciding xs S x
     back_deciding (IsDown h ∷ xs) S x = back_deciding xs S x
-    back_deciding (IsMoved move ∷ xs) S x = back_deciding xs S x
+    back_deciding (IsMoved move ∷ xs) S x = elim (back_deciding xs (Moves move ∷ S) x) [
+      | inl k ↦ absurd (no_move S move k)
+      | inr k ↦ k.0
+    ]
 
   -- what no admission makes so was so before those
   pub back_admitting : ((S : List Doing) (h : HostId) (ts : List Token) → P S (Admits h ts) → ⊥)
@@ -210,6 +217,9 @@ module _ (P : List Doing → Doing → Type 0) (takes : IsTaking P) where
   no_write : (S : List Doing) (w : Written) → P S (WritesDown w) → ⊥
   no_write S w x = let k = takes S (WritesDown w) x in let z : WritesDown w ≡ Took k.0 k.1 k.2 k.3 = k.4 in cc
 
+  no_move : (S : List Doing) (move : Move) → P S (Moves move) → ⊥
+  no_move S move x = let k = takes S (Moves move) x in let z : Moves move ≡ Took k.0 k.1 k.2 k.3 = k.4 in cc
+
   no_admit : (S : List Doing) (h : HostId) (ts : List Token) → P S (Admits h ts) → ⊥
   no_admit S h ts x = let k = takes S (Admits h ts) x in let z : Admits h ts ≡ Took k.0 k.1 k.2 k.3 = k.4 in cc
 
@@ -219,7 +229,7 @@ module _ (P : List Doing → Doing → Type 0) (takes : IsTaking P) where
   pub taken_admitting : (cs : List Admission) (s : Step) (S : List Doing)
       → InEpoch P (appended (admitting cs) (after_deciding s S)) → InEpoch P (after_cause s.cause S)
   taken_admitting cs s S x =
-      back_deciding P no_want no_write s.applied (after_cause s.cause S)
+      back_deciding P no_want no_write no_move s.applied (after_cause s.cause S)
       (back_admitting P no_admit cs (after_deciding s S) x)
 
   pub taken_step : (s : Step) (S : List Doing) → InEpoch P (after_step s S) → InEpoch P (after_cause s.cause S)
@@ -243,7 +253,10 @@ module _ (P : List Doing → Doing → Type 0) (takes : IsTaking P) where
   once_deciding (Replied y ∷ xs) S x = once_deciding xs S x
   once_deciding (Stored h f ss n ∷ xs) S x = once_deciding xs S x
   once_deciding (IsDown h ∷ xs) S x = once_deciding xs S x
-  once_deciding (IsMoved move ∷ xs) S x = once_deciding xs S x
+  once_deciding (IsMoved move ∷ xs) S x = elim (once_deciding xs (Moves move ∷ S) x) [
+    | inl k ↦ absurd (no_move P takes S move k)
+    | inr k ↦ k
+  ]
 
   once_admitting : (cs : List Admission) (S : List Doing) → Once P (appended (admitting cs) S) → Once P S
   once_admitting [] S x = x
@@ -359,7 +372,10 @@ module _ (h : HostId) (e n : ℕ) (b : Body) where
   sent_deciding (Replied x ∷ xs) S o = sent_deciding xs S o
   sent_deciding (Stored k f ss m ∷ xs) S o = sent_deciding xs S o
   sent_deciding (IsDown k ∷ xs) S o = sent_deciding xs S o
-  sent_deciding (IsMoved move ∷ xs) S o = sent_deciding xs S o
+  sent_deciding (IsMoved move ∷ xs) S o = elim (sent_deciding xs (Moves move ∷ S) o) [
+    | inl q ↦ absurd (let z : Moves move ≡ Sent h e n b = q in cc)
+    | inr k ↦ k
+  ]
 
   sent_admitting : (cs : List Admission) (S : List Doing) → SentTo (appended (admitting cs) S) h e n b
       → SentTo S h e n b
@@ -423,7 +439,10 @@ module _ (h : HostId) where
   listed_deciding (Replied y ∷ xs) S x = listed_deciding xs S x
   listed_deciding (Stored k f ss n ∷ xs) S x = listed_deciding xs S x
   listed_deciding (IsDown k ∷ xs) S x = listed_deciding xs S x
-  listed_deciding (IsMoved move ∷ xs) S x = listed_deciding xs S x
+  listed_deciding (IsMoved move ∷ xs) S x = elim (listed_deciding xs (Moves move ∷ S) x) [
+    | inl k ↦ (let q = k.0 in absurd (let z : Moves move ≡ Took h q.0 q.1 Hello = q.2 in cc))
+    | inr k ↦ k
+  ]
 
   pub listed_admitting : (cs : List Admission) (S : List Doing) → Listed (appended (admitting cs) S) h → Listed S h
   listed_admitting [] S x = x

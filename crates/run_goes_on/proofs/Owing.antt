@@ -26,6 +26,7 @@ use Rattle.run_rules.specs.Doings.{after_step, doings_of, epoch, sending}
 use Rattle.run_rules.specs.Doings.Doing.{Admits, BeginsEpoch, Flushes, MakesWant, Reserves, Sent, Took, WritesDown}
 use Rattle.run_rules.specs.HostDue.{AnswersOf, HasDirty, HostDue, RevokeDue}
 use Rattle.run_rules.specs.HostMay.{HostMay, IsExact}
+use Rattle.run_rules.specs.Kept.{filesets_kept}
 use Rattle.run_rules.specs.Messages.{HasStopped, KeepsToken, Sends, Stay, epoch_at, first_stay, home}
 use Rattle.run_rules.specs.Past.{Always, In, appended}
 use Rattle.run_rules.specs.Plans.{receiver_by, resender_by, resender}
@@ -42,7 +43,10 @@ use Rattle.run_rules.specs.declared.step.Cause.TheVariants.{Line, Message as Cam
 use Rattle.run_rules.specs.declared.step.Labelled.{Labelled}
 use Rattle.run_rules.specs.declared.step.Step.{Step}
 use Rattle.run_tokens.proofs.Law.{Whole}
-use Rattle.run_tokens.proofs.Words.{acts_after, first_here, here_first, if_host, if_server, own_after, stay_first}
+use Rattle.run_tokens.proofs.TokenRun.{works_none}
+use Rattle.run_tokens.proofs.Unmoved.{admitted_put, here_is, here_was}
+use Rattle.run_tokens.proofs.Words.{acts_after, if_host, if_server, own_after, stay_first}
+use Rattle.run_tokens.specs.Unmoved.{StaysPut}
 use Rattle.run_goes_on.proofs.Arriving.{cause_on, due_at, due_of, found, from_one, meets_at, step_on, whole_at}
 use Rattle.run_goes_on.proofs.Doings.{Knows, epoch_after_cause, epoch_step, knows, reclaimed_by, sent_so}
 use Rattle.run_goes_on.proofs.Giving.{gives_are_known}
@@ -543,7 +547,7 @@ module _ (script : Script) (start : Tree) (firsts : ServerId → ℕ) (real : (v
             where
               here : Here v (acts m) named.fid.fileset sends.0.moves
               here =
-                  first_here v (acts m) named.fid.fileset sends.0.moves
+                  here_was v (acts m) named.fid.fileset sends.0.moves ((all (y ∷ q) m b.has.whole).at v).served.put
                   (subst (λ (z : ServerId × ℕ). first_stay named.fid.fileset ≡ record { server = z.0; moves = z.1 })
                   (λ j. (to_v j, sym sends.4 j)) stays)
 
@@ -621,7 +625,7 @@ module _ (script : Script) (start : Tree) (firsts : ServerId → ℕ) (real : (v
 
               here : Here v (acts m) keeps.3.fid.fileset keeps.4.0.moves
               here =
-                  first_here v (acts m) keeps.3.fid.fileset keeps.4.0.moves
+                  here_was v (acts m) keeps.3.fid.fileset keeps.4.0.moves ((all (y ∷ q) m b.has.whole).at v).served.put
                   (subst (λ (z : ServerId × ℕ). first_stay keeps.3.fid.fileset ≡ record { server = z.0; moves = z.1 })
                   (λ j. (to_v j, sym keeps.4.4 j)) stays)
 
@@ -631,10 +635,20 @@ module _ (script : Script) (start : Tree) (firsts : ServerId → ℕ) (real : (v
 
       -- # But it is one of these, where the Revoke comes
       module _ (cause : x.cause ≡ Came k.sent.0) where
+        may_send : ServerMay script start v (steps_of_server v k.before) (acts k.before) k.step
+        may_send = server_may k.rest k.before k.step k.whole k.at
+
+        admitted_so : StaysPut (after_admitting k.step (acts k.before))
+        admitted_so =
+            admitted_put k.step (acts k.before)
+            (works_none v (filesets_kept start v (steps_of_server v k.before)) (acts k.before) k.step may_send.works.applies)
+            ((all (k.step ∷ k.rest) k.before k.whole).at v).served.put
+
         sent_from : (mid : List Doing) × ServerTokens v mid (Sent k.sent.0.host k.sent.0.epoch k.sent.0.moves
             k.sent.0.body) × (k.sent.0.epoch ≡ epoch (after_cause k.step.cause (acts k.before)))
+            × (StaysPut (after_admitting k.step (acts k.before)) → StaysPut mid)
         sent_from =
-            sent_so v k.step (acts k.before) (server_may k.rest k.before k.step k.whole k.at).tokens k.sent.0 k.sent.1
+            sent_so v k.step (acts k.before) may_send.tokens k.sent.0 k.sent.1
 
         from : k.sent.0.server ≡ v
         from =
@@ -643,7 +657,7 @@ module _ (script : Script) (start : Tree) (firsts : ServerId → ℕ) (real : (v
 
         file_here : first_stay k.revoke.fid.fileset ≡ record { server = v; moves = k.sent.0.moves }
         file_here =
-            here_first v sent_from.0 k.revoke.fid.fileset k.sent.0.moves
+            here_is v sent_from.0 k.revoke.fid.fileset k.sent.0.moves (sent_from.3 admitted_so)
             (sent_from.1.revokes_here k.sent.0.host k.sent.0.epoch k.sent.0.moves k.revoke
             (λ j. Sent k.sent.0.host k.sent.0.epoch k.sent.0.moves (k.sent.3 j)))
 

@@ -29,6 +29,7 @@ use Rattle.run_rules.specs.declared.step.Cause.TheVariants.{End, Evict, Flushed,
 use Rattle.run_rules.specs.declared.step.Cause.TheVariants.{Line, Message as Came, Restart}
 use Rattle.run_rules.specs.declared.step.Step.{Step}
 use Rattle.run_contents.proofs.Grants.{same_decisions}
+use Rattle.run_tokens.proofs.TokenRun.{works_none}
 use Rattle.run_tokens.proofs.Words.{acts_after, if_server}
 
 -- # Which wants can't both wait
@@ -123,7 +124,8 @@ new_step : (script : Script) (start : Tree) (v : ServerId) (steps : List Step) (
 new_step script start v steps S s m old =
     on (after_sending s S) (Reserves s.reserved) (λ w e. absurd (cc))
     (sends s.sent (after_admitting s S) (admits s.admitted (after_deciding s S)
-    (subst MadeNew (sym (same_decisions s.applied (after_cause s.cause S)))
+    (subst MadeNew (sym (same_decisions s.applied (after_cause s.cause S)
+    (works_none v (filesets_kept start v steps) S s m.works.applies)))
     (decides v S s (decisions s.applied) (filesets_through s.cause (by_cause s.applied) (filesets_kept start v steps))
     (after_cause s.cause S) m.works.decides (causes s.cause S old)))))
 

@@ -54,6 +54,7 @@ use Rattle.run_goes_on.proofs.Grown.{sent_split}
 use Rattle.run_goes_on.proofs.Unblocking.{takes_part}
 use Rattle.run_goes_on.specs.Ended.{AllIsFlushed, EndedRunsRest, NoMoveWaits}
 use Rattle.run_goes_on.specs.Rest.{CanEnd, RunRests}
+use Rattle.run_tokens.proofs.TokenRun.{works_none}
 use Rattle.run_goes_on.specs.Resting.{NoneAwaits}
 
 -- # A host whose want waits hasn't gone away
@@ -155,7 +156,8 @@ here_step : (script : Script) (start : Tree) (v : ServerId) (steps : List Step) 
 here_step script start v steps S s m old =
     on (after_sending s S) (Reserves s.reserved) (λ w e. cc)
     (sends s.sent (after_admitting s S) (admits s.admitted (after_deciding s S)
-    (subst AllHere (sym (same_decisions s.applied (after_cause s.cause S)))
+    (subst AllHere (sym (same_decisions s.applied (after_cause s.cause S)
+    (works_none v (filesets_kept start v steps) S s m.works.applies)))
     (decides v S s (decisions s.applied) (filesets_through s.cause (by_cause s.applied) (filesets_kept start v steps))
     (after_cause s.cause S) m.works.decides (takes_here v S s) (causes s.cause S old)))))
 

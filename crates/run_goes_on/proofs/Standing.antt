@@ -72,6 +72,8 @@ use Rattle.run_goes_on.proofs.Requests.{no_give, old_change, request_of, same_by
 use Rattle.run_goes_on.proofs.Staying.{SendsIt, WasSent, for_itself, goes_there, host_resends, was_sent}
 use Rattle.run_goes_on.proofs.Telling.{decide, learns_by, server_due, server_may, server_sends}
 use Rattle.run_goes_on.specs.Ended.{IsRequest, IsSame, RequestsStandAsWants}
+use Rattle.run_tokens.proofs.TokenRun.{works_none}
+use Rattle.run_tokens.specs.Unmoved.{MovesNone}
 use Rattle.run_goes_on.specs.Rest.{AllIsOver, IsTakenIn, LapsesIn, NoneIsHeld}
 
 -- # Words
@@ -406,7 +408,8 @@ module _ (script : Script) (start : Tree) (firsts : ServerId → ℕ) (real : (v
         ends {u = u} c cause node_u =
             let then_at = at_cut after_it c in
             answer_ends v (own c.before) u w cause server (now ∙ sym (host_epoch (u ∷ c.after) c.before then_at)) n b
-            (answer_goes script start v (steps_of_server v p) (acts p) t (may_then l p t a.whole at) w i b answers)
+            (answer_goes script start v (steps_of_server v p) (acts p) t (may_then l p t a.whole at)
+            ((all (t ∷ l) p a.whole).at v).served.put w i b answers)
             answers
             (subst (λ (L : List Step). IsUnanswered L v n b) (host_steps host u c.before node_u)
             (outstanding c.after (u ∷ c.before) then_at.whole (mark_on c.before u then_at.mark).sent))
@@ -627,20 +630,23 @@ module _ (script : Script) (start : Tree) (firsts : ServerId → ℕ) (real : (v
           none_goes (inl z) = let y = z.2 in cc
           none_goes (inr z) = let y = z.0.1 in cc
 
+      none_moved : MovesNone t
+      none_moved = works_none v (filesets_kept start v (steps_of_server v p)) S t may_t.works.applies
+
       abbrev kept_then : Tree
       kept_then =
           filesets_through t.cause (by_cause t.applied) (filesets_kept start v (steps_of_server v p))
 
       from_caused : HasOne (after_cause t.cause S) → HasOne (after_step t S)
       from_caused has =
-          from_decided (subst HasOne (sym (same_decisions t.applied (after_cause t.cause S)))
+          from_decided (subst HasOne (sym (same_decisions t.applied (after_cause t.cause S) none_moved))
           (keep_decides (decisions t.applied) kept_then (after_cause t.cause S) may_t.works.decides
           (λ y i. decided_applied t.applied y i) has))
 
       from_made : (w : Wanted) → In (IsWanted w) t.applied → w.host ≡ host → IsSame b w.request
           → HasOne (after_step t S)
       from_made w i h same =
-          from_decided (subst HasOne (sym (same_decisions t.applied (after_cause t.cause S)))
+          from_decided (subst HasOne (sym (same_decisions t.applied (after_cause t.cause S) none_moved))
           (made_decides (decisions t.applied) kept_then (after_cause t.cause S) may_t.works.decides
           (λ y i. decided_applied t.applied y i) w (want_decided t.applied w i) h same))
 
@@ -752,7 +758,7 @@ module _ (script : Script) (start : Tree) (firsts : ServerId → ℕ) (real : (v
         takes_it lacks =
             let made = due_t.decided.news host m.moves (request_of b asks) (record {
               taken = subst (TakenNow S t host m.moves) (sym (body_is b asks)) taken;
-              here = asked_here v S m.moves b asks meant goes;
+              here = asked_here v S ((all (t ∷ l) p a.whole).at v).served.put m.moves b asks meant goes;
               fresh = fresh;
               alone = λ w q h both. from_caused
                   (λ j. j (

@@ -71,6 +71,7 @@ use Rattle.run_rules.specs.declared.applied.Applied.{Applied}
 use Rattle.run_rules.specs.declared.step.Cause.{Cause}
 use Rattle.run_rules.specs.declared.step.Cause.TheVariants.{End, Evict, Flushed, Freight, Lapse, Line, Message as Came}
 use Rattle.run_rules.specs.declared.step.Cause.TheVariants.{Restart}
+use Rattle.run_tokens.specs.Unmoved.{StaysPut}
 use Rattle.run_rules.specs.declared.step.Step.{Step}
 
 -- what is applied stands in what the cause applies, or is decided
@@ -330,7 +331,7 @@ module _ (script : Script) (start : Tree) (firsts : ServerId → ℕ) (c : Conte
     g = given.0
 
     home_is : site g.fid ≡ v
-    home_is = made_at v S g.fid.fileset given.3.0.0 given.3.0.1
+    home_is = made_at v S g.fid.fileset given.3.0.0 (subst StaysPut doings_are at.put) given.3.0.1
 
     stored : (h ≡ x.host) × (fid ≡ g.fid) × (spans ≡ map span_of g.pieces) × (len ≡ g.length)
         × ((takes_gifts K g.fid && (nat_lt 0 (length g.pieces) || is_some g.length)) ≡ true)

@@ -34,17 +34,20 @@ use Rattle.run_history.proofs.UseCausing.{of_cause, to_cause}
 use Rattle.run_history.proofs.ServerStep.{met}
 use Rattle.run_history.proofs.State.{LockedNow, all, whole}
 use Rattle.run_history.proofs.Waiting.{AllFresh, cause_sent, causes as causes_fresh, fresh_now, wanted as wanted_fresh}
+use Rattle.run_tokens.specs.Unmoved.{MovesNone, is_move}
+use Rattle.run_tokens.proofs.TokenRun.{none_moves}
+use Rattle.std.specs.List.{list_any}
 use Rattle.run_history.proofs.Waiting.{written_down as written_fresh}
 
 -- the decisions alone are doings of their own
-same_deciding : (xs : List Applied) → deciding xs ≡ deciding (decisions xs)
-same_deciding [] = refl
-same_deciding (IsWanted x ∷ xs) = refl
-same_deciding (IsDone x ∷ xs) = refl
-same_deciding (Replied x ∷ xs) = same_deciding xs
-same_deciding (Stored h f ss n ∷ xs) = same_deciding xs
-same_deciding (IsDown h ∷ xs) = same_deciding xs
-same_deciding (IsMoved move ∷ xs) = same_deciding xs
+same_deciding : (xs : List Applied) → list_any is_move xs ≡ false → deciding xs ≡ deciding (decisions xs)
+same_deciding [] none = refl
+same_deciding (IsWanted x ∷ xs) none = refl
+same_deciding (IsDone x ∷ xs) none = refl
+same_deciding (Replied x ∷ xs) none = same_deciding xs none
+same_deciding (Stored h f ss n ∷ xs) none = same_deciding xs none
+same_deciding (IsDown h ∷ xs) none = same_deciding xs none
+same_deciding (IsMoved move ∷ xs) none = absurd (cc)
 
 module _ (script : Script) (start : Tree) (firsts : ServerId → ℕ) (real : (v : ServerId) → 0 < firsts v)
     (past : List Step) (s : Step) (run : StepsMeet script start firsts (s ∷ past)) (v : ServerId)
@@ -138,9 +141,12 @@ module _ (script : Script) (start : Tree) (firsts : ServerId → ℕ) (real : (v
   m : StepMeets script start firsts (Server v) past s
   m = met script start firsts real past s run v node
 
+  none_moved : MovesNone s
+  none_moved = none_moves script start firsts (Server v) past s m
+
   nexts : EachInTurn (Next own_of v) (doings s S) S
   nexts =
-      each_next own_of (whole script start firsts real past run.0).alone v s S m.0.tokens (λ x e. (m.1 x e).2)
+      each_next own_of (whole script start firsts real past run.0).alone v s S none_moved m.0.tokens (λ x e. (m.1 x e).2)
 
   first : Mid (after_cause s.cause S)
   first = record {
@@ -181,6 +187,6 @@ module _ (script : Script) (start : Tree) (firsts : ServerId → ℕ) (real : (v
   each_mid =
       walk (decisions s.applied) (filesets_through s.cause (by_cause s.applied) (filesets_kept start v (steps_of_server v past)))
       (after_cause s.cause S) m.0.works.decides
-      (subst (λ ds. EachInTurn (Next own_of v) (ds ++ rest) (after_cause s.cause S)) (same_deciding s.applied)
+      (subst (λ ds. EachInTurn (Next own_of v) (ds ++ rest) (after_cause s.cause S)) (same_deciding s.applied none_moved)
       (taken_next s.cause (deciding s.applied ++ rest) nexts
       ((whole script start firsts real past run.0).at v)).1) first

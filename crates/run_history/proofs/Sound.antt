@@ -23,7 +23,8 @@ use Rattle.script_lines.specs.declared.script.Script.{Script}
 use Rattle.tree_laws.specs.Parts.Part.{ByteAt}
 use Rattle.run_rules.specs.Doings.{Doing, SentTo, admitting, after_admitting, after_cause, after_deciding, after_step}
 use Rattle.run_rules.specs.Doings.{deciding, doings_of, epoch, sending}
-use Rattle.run_rules.specs.Doings.Doing.{Admits, BeginsEpoch, Flushes, MakesWant, Reserves, Sent, Took, WritesDown}
+use Rattle.run_rules.specs.Doings.Doing.{Admits, BeginsEpoch, Flushes, MakesWant, Moves, Reserves, Sent, Took}
+use Rattle.run_rules.specs.Doings.Doing.{WritesDown}
 use Rattle.run_rules.specs.HostMay.{HostMay}
 use Rattle.run_rules.specs.Past.{In, appended}
 use Rattle.run_rules.specs.Runs.{StepMeets, StepsMeet}
@@ -81,7 +82,7 @@ module _ (script : Script) (h : HostId) (e n : ℕ) (b : Body) where
   writes (Replied x ∷ xs) S old = writes xs S old
   writes (Stored k f ss l ∷ xs) S old = writes xs S old
   writes (IsDown k ∷ xs) S old = writes xs S old
-  writes (IsMoved move ∷ xs) S old = writes xs S old
+  writes (IsMoved move ∷ xs) S old = writes xs (Moves move ∷ S) (other S (Moves move) (λ q. cc) old)
 
   causes : (c : Cause) (S : List Doing) → AllSound S → AllSound (after_cause c S)
   causes (Came m) S old = other S (Took m.host m.epoch m.moves m.body) (λ q. cc) old

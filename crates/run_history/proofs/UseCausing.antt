@@ -15,7 +15,8 @@ use Rattle.run_parts.specs.Uses.{Frees, FreesAny}
 use Rattle.run_contents.proofs.Bodies.{cases_nat, here, is_down, is_give, live}
 use Rattle.run_contents.proofs.Caused.{no_message}
 use Rattle.run_rules.specs.Doings.{Doing, HasGoneDown, Here, IsApplied, IsLive, admitting, deciding, epoch, sending}
-use Rattle.run_rules.specs.Doings.Doing.{Admits, BeginsEpoch, Flushes, MakesWant, Reserves, Sent, Took, WritesDown}
+use Rattle.run_rules.specs.Doings.Doing.{Admits, BeginsEpoch, Flushes, MakesWant, Moves, Reserves, Sent, Took}
+use Rattle.run_rules.specs.Doings.Doing.{WritesDown}
 use Rattle.run_rules.specs.Past.{In}
 use Rattle.run_rules.specs.ServerDecides.{FirstDown, FirstGiven, ServerApplies, by_cause, decisions, is_decision}
 use Rattle.run_rules.specs.Tokens.{number_of}
@@ -65,7 +66,8 @@ module _ (v : ServerId) (h : HostId) (u : Labelled) where
   writes_none (Replied x ∷ xs) more rest = writes_none xs more rest
   writes_none (Stored k f ss n ∷ xs) more rest = writes_none xs more rest
   writes_none (GoesDown k ∷ xs) more rest = writes_none xs more rest
-  writes_none (IsMoved move ∷ xs) more rest = writes_none xs more rest
+  writes_none (IsMoved move ∷ xs) more rest =
+      one_less (Moves move) (deciding xs ++ more) (λ e n b q. cc) (writes_none xs more rest)
 
   module _ (s : Step) (S : List Doing) where
     abbrev more : List Doing

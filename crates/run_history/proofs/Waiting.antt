@@ -42,6 +42,7 @@ use Rattle.run_rules.specs.declared.step.Cause.{Cause}
 use Rattle.run_rules.specs.declared.step.Cause.TheVariants.{End, Evict, Flushed, Freight, Lapse, Line, Message as Came}
 use Rattle.run_rules.specs.declared.step.Cause.TheVariants.{Restart}
 use Rattle.run_rules.specs.declared.step.Step.{Step}
+use Rattle.run_tokens.proofs.TokenRun.{works_none}
 use Rattle.run_history.proofs.State.{whole}
 
 -- no Done of a Change was said in this epoch
@@ -144,7 +145,8 @@ step_fresh : (script : Script) (start : Tree) (v : ServerId) (steps : List Step)
 step_fresh script start v steps S s m old =
     on (after_sending s S) (Reserves s.reserved) (λ w e. cc) (λ h e n b q. cc) refl
     (sents s.sent (after_admitting s S) (admits s.admitted (after_deciding s S)
-    (subst AllFresh (sym (same_decisions s.applied (after_cause s.cause S)))
+    (subst AllFresh (sym (same_decisions s.applied (after_cause s.cause S)
+    (works_none v (filesets_kept start v steps) S s m.works.applies)))
     (decides v S s (decisions s.applied) (filesets_through s.cause (by_cause s.applied) (filesets_kept start v steps))
     (after_cause s.cause S) m.works.decides (causes s.cause S old)))))
 

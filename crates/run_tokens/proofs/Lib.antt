@@ -1,4 +1,5 @@
 pub mod Owed
+pub mod Unmoved
 pub mod Words
 pub mod Invariant
 pub mod HostStep

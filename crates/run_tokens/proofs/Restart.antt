@@ -184,7 +184,7 @@ module _ (whole : Span) where
     moves = 0;
     took = inl (refl, live_began);
     waited = λ o m up. absurd (it_waits o m up);
-    sound = λ t m. (m, both (λ x. x.host ≡ client) refl refl t m, both (λ x. ClaimsHere site_one asked_again (claim whole) x) (at_root, inl refl, refl, here_one asked_again) (at_root, inl refl, refl, here_one asked_again) t m, not_given_up t.id, λ u. not_granted u.0 u.1);
+    sound = λ t m. (m, both (λ x. x.host ≡ client) refl refl t m, both (λ x. ClaimsHere site_one asked_again (claim whole) x) (at_root, inl refl, refl, here_one) (at_root, inl refl, refl, here_one) t m, not_given_up t.id, λ u. not_granted u.0 u.1);
     whole = λ t m here out free. (t, m, refl);
     apart = two_of;
   }
@@ -437,7 +437,7 @@ module _ (whole : Span) where
       stays (Reserves []) (Sent client 2 0 (Reclaimed claimed) ∷ Admits client (claim whole).tokens ∷ asked_again) b (λ e n p. cc) (λ e n p. cc)
 
   is_applied : IsApplied site_one stored client (number_of (give whole))
-  is_applied = inl (give whole, (0, here_one granted_again, (refl, live_granted)), refl, omega arith)
+  is_applied = inl (give whole, (0, here_one, (refl, live_granted)), refl, omega arith)
 
   -- the server's steps
   plain_words : IsBare Restarted
@@ -478,22 +478,22 @@ module _ (whole : Span) where
       subst (λ (x : Message). (x.host ≡ client) × (x.direction ≡ ToHost) × SentTo (doings_of 1 x.server past) client x.epoch x.moves x.body) p (refl, refl, sent)
 
   run_9 : IsTokenRun (λ v. 1) steps_9
-  run_9 = (a_run whole, (restarts_may, λ m e. absurd (cc)), from_it Restarted)
+  run_9 = (a_run whole, (restarts_may, λ m e. absurd (cc)), from_it Restarted, refl)
 
   run_10 : IsTokenRun (λ v. 1) steps_10
-  run_10 = (run_9, (reclaims_may, host_cause steps_9 (reclaims whole) Restarted refl (inr (inl refl))), to_it whole 2 (Reclaim (claim whole)))
+  run_10 = (run_9, (reclaims_may, host_cause steps_9 (reclaims whole) Restarted refl (inr (inl refl))), to_it whole 2 (Reclaim (claim whole)), refl)
 
   run_11 : IsTokenRun (λ v. 1) steps_11
-  run_11 = (run_10, (admits_may, server_cause whole steps_10 (admits whole) 2 (Reclaim (claim whole)) refl (inl (to_server 2 (Reclaim (claim whole)), inl refl, refl, refl, refl, refl))), from_it (Reclaimed claimed))
+  run_11 = (run_10, (admits_may, server_cause whole steps_10 (admits whole) 2 (Reclaim (claim whole)) refl (inl (to_server 2 (Reclaim (claim whole)), inl refl, refl, refl, refl, refl))), from_it (Reclaimed claimed), refl)
 
   run_12 : IsTokenRun (λ v. 1) steps_12
-  run_12 = (run_11, (gives_may, host_cause steps_11 (gives whole) (Reclaimed claimed) refl (inr (inl refl))), to_it whole 2 (GiveBack (give whole)))
+  run_12 = (run_11, (gives_may, host_cause steps_11 (gives whole) (Reclaimed claimed) refl (inr (inl refl))), to_it whole 2 (GiveBack (give whole)), refl)
 
   run_13 : IsTokenRun (λ v. 1) steps_13
-  run_13 = (run_12, (stores_may, server_cause whole steps_12 (stores whole) 2 (GiveBack (give whole)) refl (inl (to_server 2 (GiveBack (give whole)), inl refl, refl, refl, refl, refl))), from_it (Gone (number_of (give whole))))
+  run_13 = (run_12, (stores_may, server_cause whole steps_12 (stores whole) 2 (GiveBack (give whole)) refl (inl (to_server 2 (GiveBack (give whole)), inl refl, refl, refl, refl, refl))), from_it (Gone (number_of (give whole))), refl)
 
   pub restart_run : IsTokenRun (λ v. 1) (worked_restart whole)
-  restart_run = (run_13, (learns_may, host_cause steps_13 (learns whole) (Gone (number_of (give whole))) refl (inr (inl refl))), λ m i. elim i [ ])
+  restart_run = (run_13, (learns_may, host_cause steps_13 (learns whole) (Gone (number_of (give whole))) refl (inr (inl refl))), λ m i. elim i [ ], refl)
 
   pub was_applied : IsApplied site_one (doings_of 1 site_one (worked_restart whole)) client (number_of (give whole))
   was_applied = inr (inr is_applied)
