@@ -100,7 +100,7 @@ answer_list past s =
 
 unfoldable pub first_body : ServerId → List Doing → Message → Body → Bool
 first_body server past m (GiveBack g) =
-    is_taken past m && (here server g.fid.fileset m.moves && not (applied server past m.host (number_of g)))
+    is_taken past m && (here server past g.fid.fileset m.moves && not (applied server past m.host (number_of g)))
 first_body server past m Down = not (down past m.host)
 first_body server past m _ = true
 
@@ -412,10 +412,10 @@ module _ (server : ServerId) (tree : Tree) (past : List Doing) (s : Step) where
       first_is m g c is =
           let e : first_body server past m (GiveBack g) ≡ true = subst (λ b. first_body server past m b ≡ true) is
           (at_cause (λ m. first_body server past m m.body) s m first c) in
-          let x = here server g.fid.fileset m.moves && not (applied server past m.host (number_of g)) in
+          let x = here server past g.fid.fileset m.moves && not (applied server past m.host (number_of g)) in
           let p = and_parts (live past m.host && (m.epoch == epoch past)) x e in
           let q = and_parts (live past m.host) (m.epoch == epoch past) p.0 in
-          let r = and_parts (here server g.fid.fileset m.moves) (not (applied server past m.host (number_of g))) p.1 in (
+          let r = and_parts (here server past g.fid.fileset m.moves) (not (applied server past m.host (number_of g))) p.1 in (
             (
               m.moves,
               ((m, c, refl, eqb-true m.epoch (epoch past) q.1, refl, is), live_yes past m.host q.0),
