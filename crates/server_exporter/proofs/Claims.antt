@@ -216,7 +216,7 @@ word_heard : (server : ServerId) (p q : List Doing) (h : HostId) (n : ℕ) (b : 
     → IsWordOf server p h n b → IsWordOf server q h n b
 word_heard server p q h n b s c = record {
   blank = c.blank;
-  gone = λ o e. (let x = c.gone o e in (x.0, (s.applied h o).0 x.1));
+  gone = λ o e. (let x = c.gone o e in (sym (s.slots o.fileset) ∙ x.0, (s.applied h o).0 x.1));
   reclaimed = λ r o e i. (s.applied h o).0 (c.reclaimed r o e i);
   left_out = λ r o e i. (s.given_up h o).0 (c.left_out r o e i);
 }
@@ -358,7 +358,7 @@ module _ (cause : Cause) (past : List Doing) where
     inner = admit_inner a.host a.tokens
 
     its : In c x.recovering.claims
-    its = (ripe_is before x.server x.recovering g.stands.recovery c one.next.ripe).0
+    its = (ripe_is before x.server x.recovering g.stands.slots g.stands.recovery c one.next.ripe).0
 
     never : HasReclaimed before c.host → ⊥
     never = (g.waits c its).0

@@ -138,7 +138,7 @@ module _ (server : ServerId) (cause : Cause) (past : List Doing) (h : HostId) (c
       → has_all m.tables.recovering.taken m.tables.server h claim ≡ true
   has_its m z i =
       let w = z.granting.waits its i in
-      taken_all (said_in cause past m.draft) m.tables.server m.tables.recovering z.granting.stands.recovery h w.0 w.1.1
+      taken_all (said_in cause past m.draft) m.tables.server m.tables.recovering z.granting.stands.slots z.granting.stands.recovery h w.0 w.1.1
       claim (given m z)
 
   abbrev its_ad : (a b : Made) → AdmitsOne a b → Admission
@@ -201,7 +201,7 @@ module _ (server : ServerId) (cause : Cause) (past : List Doing) (h : HostId) (c
           (subst (λ (k : HostId). has_all a.tables.recovering.taken a.tables.server k claim ≡ true) same
           (has_its a z i)) in
           let there = one.so.are.all its i ripe in
-          let by_tables = answers_claim past_a a.tables.server a.tables.recovering z.granting.stands.recovery h w.0
+          let by_tables = answers_claim past_a a.tables.server a.tables.recovering z.granting.stands.slots z.granting.stands.recovery h w.0
           w.1.1
           claim in
           let so : AnswersClaim server begun h claim answer =

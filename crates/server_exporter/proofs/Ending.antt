@@ -307,7 +307,7 @@ module _ (start : Tree) (server : ServerId) (steps : List Step) (past : List Doi
     uses = all_uses server kept mid.state s before keeps end said.way few;
     others = all_others server kept mid.state s before keeps end said.way few;
     enters = all_enters server kept mid.state s before keeps end said.way few;
-    claims = λ k n claim took never live taken. none_ripe now x2.server x2.recovering stands2.recovery none k n claim
+    claims = λ k n claim took never live taken. none_ripe now x2.server x2.recovering stands2.slots stands2.recovery none k n claim
         took
         never live (subst (λ (v : ServerId). HasTakenGives v now k claim) (sym server2) taken);
   })

@@ -414,6 +414,7 @@ module _ (tree : Tree) (past : List Doing) (x : Exporter) (z : IsAt past tree x)
   hosts_same = record {
     calm = record {
       begin = λ w. let q = w.1 in cc;
+      still = λ w. let q = w.1 in cc;
       away = λ j w. absurd (elim w [
         | inl f ↦ (let q = its_body j f.0 f.1 Down f.2 in cc)
         | inr f ↦ (let q = its_body j (epoch past) f.0.0 Bye f.0.1 in cc)
@@ -633,7 +634,7 @@ module _ (tree : Tree) (past : List Doing) (x : Exporter) (z : IsAt past tree x)
         none_here : (j : HostId) (n : ℕ) (d : Give) → TakenNow past s j n (GiveBack d)
             → Here x.tables.server past d.fid.fileset n → ⊥
         none_here j n d q there = moved ((taken_m past m s e j n (GiveBack d) q).2
-            ∙ (here_from x.tables.server past d.fid.fileset n there).0)
+            ∙ (here_from x.tables.server past d.fid.fileset n z.tables.slots there).0)
 
         away_says : SaysAtOnce x.tables.server past s []
         away_says = record {

@@ -283,7 +283,7 @@ module _ (server : ServerId) (stamp : ℕ) (past : List Doing) (h : HostId) (e n
   pub unheard_still : IsStill server stamp past a
   unheard_still = record {
     hosts = record {
-      calm = record { begin = λ w. let p = w.1 in cc; away = λ k g. absurd (goes_none k g); admits = λ k ts p. cc };
+      calm = record { begin = λ w. let p = w.1 in cc; still = λ w. let p = w.1 in cc; away = λ k g. absurd (goes_none k g); admits = λ k ts p. cc };
       hello = λ k f l d. quiet.hello (same_took h k e f.0 n f.1 b Hello f.2).3;
       down = λ k f. absurd (quiet.down (same_took h k e f.0 n f.1 b Down f.2).3);
       sends = λ k f i d p. absurd (cc);
@@ -385,6 +385,7 @@ module _ (tree : Tree) (past : List Doing) (x : Exporter) (z : IsAt past tree x)
   plain_hosts b p = record {
     calm = record {
       begin = λ w. let q = w.1 in cc;
+      still = λ w. let q = w.1 in cc;
       away = λ k w. absurd (elim w [
         | inl f ↦ p.down (its_body b Down (epoch past) n k f.0 f.1 f.2)
         | inr f ↦ p.bye (its_body b Bye (epoch past) n k (epoch past) f.0.0 f.0.1)
@@ -479,7 +480,7 @@ module _ (tree : Tree) (past : List Doing) (x : Exporter) (z : IsAt past tree x)
 
   -- its fileset isn't here
   not_here : (f : FilesetId) → is_of x.tables.server f ≡ false → Here x.tables.server past f m.moves → ⊥
-  not_here f e here = false≢true (sym e ∙ (here_from x.tables.server past f m.moves here).1)
+  not_here f e here = false≢true (sym e ∙ (here_from x.tables.server past f m.moves z.tables.slots here).1)
 
   module _ (g : Named) where
     pub returned_opens : m.body ≡ Returned g → m.moves ≡ 0 → IsServed (returned_tables x.tables m.host g) st
@@ -492,7 +493,7 @@ module _ (tree : Tree) (past : List Doing) (x : Exporter) (z : IsAt past tree x)
             (making (if b then freed x.tables m.host g.ids else x.tables) no_draft st)
         by true e served = silent_begins tree past x z m (freed x.tables m.host g.ids)
             (returned_silent tree past x z m.host m.moves g live
-            (here_to x.tables.server past g.fid.fileset m.moves unmoved e) one m
+            (here_to x.tables.server past g.fid.fileset m.moves z.tables.slots unmoved e) one m
             (λ i. record m { epoch = current i; body = is i }))
             (subst IsPlainBody (sym is) (returned_plain g)) (λ l. current) st k served
         by false e served = silent_still (Returned g) is (returned_plain g)
@@ -503,7 +504,7 @@ module _ (tree : Tree) (past : List Doing) (x : Exporter) (z : IsAt past tree x)
         → HasBegun x.tables.server (Came m) tree past (making x.tables no_draft st)
     returned_away is moved served = silent_still (Returned g) is (returned_plain g)
         (returned_still x.tables.server past m.host m.epoch m.moves g
-        (inr (inr (λ here. moved (here_from x.tables.server past g.fid.fileset m.moves here).0))) x.tables.stamp)
+        (inr (inr (λ here. moved (here_from x.tables.server past g.fid.fileset m.moves z.tables.slots here).0))) x.tables.stamp)
         served
 
     pub kept_opens : IsFor x.tables.server x.tables.roster m → m.body ≡ Kept g → m.moves ≡ 0
@@ -516,7 +517,7 @@ module _ (tree : Tree) (past : List Doing) (x : Exporter) (z : IsAt past tree x)
         (its.home unmoved ∙ ap (λ (v : ServerId). v.0) of.own) in
         silent_begins tree past x z m (kept_tables x.tables m.host g)
         (kept_silent tree past x z m.host m.moves g live
-        (here_to x.tables.server past g.fid.fileset m.moves unmoved e) one m
+        (here_to x.tables.server past g.fid.fileset m.moves z.tables.slots unmoved e) one m
         (λ i. record m { epoch = current i; body = is i }))
         (subst IsPlainBody (sym is) (kept_plain g)) (λ l. current) st k served
 
