@@ -257,7 +257,7 @@ module _ (tree : Tree) (past : List Doing) (x : Exporter) (z : IsAt past tree x)
       (its.home unmoved ∙ ap (λ (v : ServerId). v.0) of.own)
 
   here : Here server past g.fid.fileset m.moves
-  here = here_to server past g.fid.fileset m.moves unmoved is_home_here
+  here = here_to server past g.fid.fileset m.moves z.tables.slots unmoved is_home_here
 
   some : 0 < g.number
   some = let p = its.number in omega (arith, p)
@@ -485,7 +485,7 @@ module _ (tree : Tree) (past : List Doing) (x : Exporter) (z : IsAt past tree x)
   gone_word = record {
     blank = gone_blank (number_of g);
     gone = λ n e. (let q = its_number (number_of g) n e in (
-      here_to server (took ∷ past) n.fileset 0 refl
+      here_to server (took ∷ past) n.fileset 0 z.tables.slots refl
           (subst (λ (a : AppliedGive). is_of server a.fileset ≡ true) q is_home_here),
       subst (IsApplied server (took ∷ past) h) q applied_now,
     ));
