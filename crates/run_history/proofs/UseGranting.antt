@@ -12,13 +12,14 @@ use Rattle.script_lines.specs.declared.script.Script.{Script}
 use Rattle.tree_laws.proofs.Steps.{same_number}
 use Rattle.tree_laws.specs.Parts.{Cell, Part, Seen}
 use Rattle.run_rules.specs.Doings.{Doing, admitting, after_cause, doings_of, epoch, sending}
-use Rattle.run_rules.specs.Doings.Doing.{BeginsEpoch, Flushes, MakesWant, Reserves, Took, WritesDown}
+use Rattle.run_rules.specs.Doings.Doing.{BeginsEpoch, Flushes, MakesWant, Moves, Reserves, Took, WritesDown}
 use Rattle.run_rules.specs.Kept.{filesets_after, filesets_kept, filesets_through}
 use Rattle.run_rules.specs.Past.{Always}
 use Rattle.run_rules.specs.Runs.{IsRun, StepMeets, StepsMeet, firsts_of, past_of}
 use Rattle.run_rules.specs.ServerDecides.{by_cause, decisions, is_decision}
 use Rattle.run_rules.specs.Steps.{steps_of_server}
-use Rattle.run_rules.specs.declared.applied.Applied.TheVariants.{Done as IsDone, Stored, Wants as IsWanted}
+use Rattle.run_rules.specs.declared.applied.Applied.TheVariants.{Done as IsDone, Moves as IsMoved, Stored}
+use Rattle.run_rules.specs.declared.applied.Applied.TheVariants.{Wants as IsWanted}
 use Rattle.run_parts.specs.Doings.{doings_cause}
 use Rattle.run_history.proofs.Granting.{unsaved_is_granted}
 use Rattle.run_history.specs.Agreement.{CausedCells}
@@ -62,6 +63,7 @@ module _ (v : ServerId) (cause : Cause) where
   same_through (IsWanted x ∷ xs) K S a b same g = same_through xs K (MakesWant x ∷ S) a b same g
   same_through (Stored h f ss n ∷ xs) K S a b same g =
       same_through xs (filesets_after cause K (Stored h f ss n)) S a b same g
+  same_through (IsMoved move ∷ xs) K S a b same g = same_through xs K (Moves move ∷ S) a b same g
   same_through (_ ∷ xs) K S a b same g = same_through xs K S a b same g
 
   -- the decisions among the deeds of a step

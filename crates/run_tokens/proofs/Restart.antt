@@ -1,5 +1,5 @@
 -- The rules of tokens admit a restart, a claim and a give-back.
-use Rattle.run_rules.specs.Doings.{Doing, GivenUp, Granted, HasReclaimed, IsApplied, IsLive, IsNewlyGranted, SentTo}
+use Rattle.run_rules.specs.Doings.{Doing, GivenUp, Granted, HasReclaimed, Here, IsApplied, IsLive, IsNewlyGranted, SentTo}
 use Rattle.run_rules.specs.Doings.{TookOf, doings_of, epoch}
 use Rattle.run_rules.specs.Doings.Doing.{Admits, BeginsEpoch, Reserves, Sent, Took}
 use Rattle.run_rules.specs.HostTokens.{Claims, HostTokens, IsClaimable}
@@ -56,7 +56,7 @@ record IsBare (b : Body) : Type 0 where
   done : (w : DoneOf) → b ≡ Done w → ⊥
   revoke : (r : RevokeOf) → b ≡ Revoke r → ⊥
 
-sends_bare : (past : List Doing) (b : Body) → epoch past ≡ 2 → IsBare b → ((g : AppliedGive) → b ≡ Gone g → (home g.fileset ≡ site_one) × IsApplied site_one past client g) → ((r : ReclaimedOf) → b ≡ Reclaimed r → claimed ≡ r) → ServerTokens site_one past (Sent client 2 0 b)
+sends_bare : (past : List Doing) (b : Body) → epoch past ≡ 2 → IsBare b → ((g : AppliedGive) → b ≡ Gone g → Here site_one past g.fileset 0 × IsApplied site_one past client g) → ((r : ReclaimedOf) → b ≡ Reclaimed r → claimed ≡ r) → ServerTokens site_one past (Sent client 2 0 b)
 sends_bare past b now bare gone says = record {
   epochs = λ h e n c p. let q : 2 ≡ e = cc in sym q ∙ sym now;
   grants = λ h e n w p. absurd (bare.grant w (cc));
@@ -64,7 +64,7 @@ sends_bare past b now bare gone says = record {
   revokes = λ h e n r i p. absurd (bare.revoke r (cc));
   revokes_here = λ h e n r p. absurd (bare.revoke r (cc));
   stamps = λ h e n x r p. absurd (bare.revoke r (cc));
-  gones = λ h e n g p. let q : client ≡ h = cc in let o : 0 ≡ n = cc in let x = gone g (cc) in ((λ i. record { server = x.0 i; moves = o i }), subst (λ k. IsApplied site_one past k g) q x.1);
+  gones = λ h e n g p. let q : client ≡ h = cc in let o : 0 ≡ n = cc in let x = gone g (cc) in (subst (λ k. Here site_one past g.fileset k) o x.0, subst (λ k. IsApplied site_one past k g) q x.1);
   reclaimed = λ h e n r g p m. let q : claimed ≡ r = says r (cc) in elim (subst (λ (x : ReclaimedOf). In g x.applied) (sym q) m) [ ];
   left_out = λ h e n r i p m. let q : claimed ≡ r = says r (cc) in elim (subst (λ (x : ReclaimedOf). In i x.left_out) (sym q) m) [ ];
   admits = λ h ts p. absurd (cc);
@@ -450,7 +450,7 @@ module _ (whole : Span) where
   admits_may = record { writes = tt; admits = (admits_them, tt); sends = (sends_bare (Admits client (claim whole).tokens ∷ asked_again) (Reclaimed claimed) refl (record { grant = λ w p. cc; done = λ w p. cc; revoke = λ r p. cc }) (λ n p. absurd (cc)) (λ r p. cc), tt); reserves = reserves_may whole (Sent client 2 0 (Reclaimed claimed) ∷ Admits client (claim whole).tokens ∷ asked_again) }
 
   pub stores_may : ServerStep site_one granted_again (stores whole)
-  stores_may = record { writes = tt; admits = tt; sends = (sends_bare stored (Gone (number_of (give whole))) refl (record { grant = λ w p. cc; done = λ w p. cc; revoke = λ r p. cc }) (λ n p. let q : number_of (give whole) ≡ n = cc in subst (λ (x : AppliedGive). (home x.fileset ≡ site_one) × IsApplied site_one stored client x) q (at_one, is_applied)) (λ r p. absurd (cc)), tt); reserves = reserves_may whole (Sent client 2 0 (Gone (number_of (give whole))) ∷ stored) }
+  stores_may = record { writes = tt; admits = tt; sends = (sends_bare stored (Gone (number_of (give whole))) refl (record { grant = λ w p. cc; done = λ w p. cc; revoke = λ r p. cc }) (λ n p. let q : number_of (give whole) ≡ n = cc in subst (λ (x : AppliedGive). Here site_one stored x.fileset 0 × IsApplied site_one stored client x) q (here_one, is_applied)) (λ r p. absurd (cc)), tt); reserves = reserves_may whole (Sent client 2 0 (Gone (number_of (give whole))) ∷ stored) }
 
   -- the run
   abbrev steps_9 : List Step

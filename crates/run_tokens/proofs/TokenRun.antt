@@ -1,6 +1,6 @@
 -- A run meets the rules of tokens.
 use Rattle.std.proofs.Common.{Bool, List, None, Option, Some, [], ap, arith, false, if◌then◌else◌, length, max, nat_lt}
-use Rattle.std.proofs.Common.{refl, sym, true, ℕ, ◌&&◌, ◌<◌, ◌∙◌, ◌∷◌, ◌≡◌}
+use Rattle.std.proofs.Common.{refl, sym, true, ℕ, ◌&&◌, ◌<◌, ◌||◌, ◌∙◌, ◌∷◌, ◌≡◌}
 use Rattle.std.specs.List.{list_all, list_any}
 use Rattle.std.specs.Option.{option_map_or}
 use Rattle.std.specs.Prelude.{is_some, map, ◌++◌}
@@ -102,20 +102,19 @@ none_moves script start firsts (Server server) past s m =
     works_none server (filesets_kept start server (steps_of_server server past)) (doings_of (firsts server) server past) s
     m.0.works.applies
 
+put_after : (n : Node) (past : List Step) (s : Step) (firsts : ServerId → ℕ) (v : ServerId) → MovesNone s
+    → StaysPut (doings_of (firsts v) v past) → StaysPut (acts_after v n s (doings_of (firsts v) v past))
+put_after (Host h) past s firsts v none put = put
+put_after (Server k) past s firsts v none put =
+    if_server StaysPut k v (after_step s (doings_of (firsts v) v past)) (doings_of (firsts v) v past)
+    (λ e. step_put s (doings_of (firsts v) v past) none put) put
+
 pub stays_put : (script : Script) (start : Tree) (firsts : ServerId → ℕ) (past : List Step)
     → StepsMeet script start firsts past → (v : ServerId) → StaysPut (doings_of (firsts v) v past)
 stays_put script start firsts [] run v = first_put (firsts v)
-stays_put script start firsts (s ∷ past) run v = go s.node
-  where
-    none : MovesNone s
-    none = none_moves script start firsts s.node past s run.1.0
-
-    go : (n : Node) → StaysPut (acts_after v n s (doings_of (firsts v) v past))
-    go (Host h) = stays_put script start firsts past run.0 v
-    go (Server k) =
-        if_server StaysPut k v (after_step s (doings_of (firsts v) v past)) (doings_of (firsts v) v past)
-        (λ e. step_put s (doings_of (firsts v) v past) none (stays_put script start firsts past run.0 v))
-        (stays_put script start firsts past run.0 v)
+stays_put script start firsts (s ∷ past) run v =
+    put_after s.node past s firsts v (none_moves script start firsts s.node past s run.1.0)
+    (stays_put script start firsts past run.0 v)
 
 pub token_run : (script : Script) (start : Tree) (firsts : ServerId → ℕ) (past : List Step)
     → ((v : ServerId) → 0 < firsts v) → StepsMeet script start firsts past → IsTokenRun firsts past
