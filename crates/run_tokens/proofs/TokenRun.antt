@@ -37,7 +37,7 @@ step_may script start firsts (Host host) past s m = (m.0.tokens, m.1)
 step_may script start firsts (Server server) past s m = (m.0.tokens, m.1)
 
 -- no step of today moves a fileset
-decide_none : (xs : List Applied) → list_all is_decision xs ≡ true → list_any is_move xs ≡ false
+pub decide_none : (xs : List Applied) → list_all is_decision xs ≡ true → list_any is_move xs ≡ false
 decide_none [] all = refl
 decide_none (Wants w ∷ xs) all = decide_none xs all
 decide_none (Done w ∷ xs) all = decide_none xs all

@@ -2,6 +2,7 @@
 -- and the tables stand then.
 use Rattle.std.proofs.Common.{◌≡◌, ◌⊎◌, ◌==◌, ◌&&◌, ℕ, Bool, true, false, not, List, [], ◌∷◌, ◌++◌, map, inl, inr}
 use Rattle.std.proofs.Common.{refl, sym, ◌∙◌, ap, subst, eq-eqb}
+use Rattle.std.specs.List.{list_any}
 use Rattle.std.proofs.lemmas.Bool.{and_from, and_parts, false≢true}
 use Rattle.std.proofs.lemmas.List.{append-nil, append_assoc}
 use Rattle.base_types.specs.declared.ids.FilesetId.{FilesetId}
@@ -64,6 +65,7 @@ use Rattle.server_decides.proofs.Chains.{goes_keeps}
 use Rattle.server_decides.proofs.Picks.{picked_apart, picked_are}
 use Rattle.server_exporter.proofs.Decisions.{AreMute, mute_ready}
 use Rattle.server_exporter.proofs.Lapses.{in_turn_both, once_both, sending_append}
+use Rattle.run_tokens.specs.Unmoved.{is_move}
 use Rattle.server_exporter.proofs.Making.{as_sent}
 
 abbrev pub said_to : Tables → HostId → List ReclaimedOf → List Message
@@ -312,6 +314,7 @@ module _ (cause : Cause) (past : List Doing) where
 
   -- what was granted so far
   pub record IsGranting (x : Tables) (d : Draft) : Type 0 where
+    pub none : list_any is_move d.applied ≡ false
     pub stands : Stands (said_in d) x
     pub answered : AnsweredStand (said_in d) x.recovering.answers
     -- a claim that waits is of a live host that hasn't reclaimed
@@ -525,6 +528,7 @@ module _ (cause : Cause) (past : List Doing) where
 
     pub granted_one : IsGranting y e
     granted_one = subst (λ (w : Draft). IsGranting y w) (sym one.so.draft) (record {
+      none = g.none;
       stands = stands_one;
       answered = answered_one;
       waits = waits_one;
