@@ -116,7 +116,7 @@ by_cause_is [] more n e = none_by_cause more e
 by_cause_is (Wants w ∷ base) more n e = absurd (cc)
 by_cause_is (IsDone v ∷ base) more n e = absurd (cc)
 by_cause_is (IsDown host ∷ base) more n e = ap (λ l. IsDown host ∷ l) (by_cause_is base more n e)
-by_cause_is (IsMoved move ∷ base) more n e = ap (λ l. IsMoved move ∷ l) (by_cause_is base more n e)
+by_cause_is (IsMoved move ∷ base) more n e = absurd (cc)
 by_cause_is (Replied answer ∷ base) more n e = ap (λ l. Replied answer ∷ l) (by_cause_is base more n e)
 by_cause_is (Stored host fid spans length ∷ base) more n e =
     ap (λ l. Stored host fid spans length ∷ l) (by_cause_is base more n e)
@@ -136,7 +136,7 @@ decisions_are [] more n e = none_left more e
 decisions_are (Wants w ∷ base) more n e = absurd (cc)
 decisions_are (IsDone v ∷ base) more n e = absurd (cc)
 decisions_are (IsDown host ∷ base) more n e = decisions_are base more n e
-decisions_are (IsMoved move ∷ base) more n e = decisions_are base more n e
+decisions_are (IsMoved move ∷ base) more n e = absurd (cc)
 decisions_are (Replied answer ∷ base) more n e = decisions_are base more n e
 decisions_are (Stored host fid spans length ∷ base) more n e = decisions_are base more n e
 
