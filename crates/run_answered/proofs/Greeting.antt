@@ -25,6 +25,7 @@ use Rattle.run_answered.proofs.Endings.{GivesName, gives_name}
 use Rattle.run_answered.specs.Answered.{EndedRunsLeaveNoneOpen}
 use Rattle.run_rules.specs.Doings.{Doing, HeardNow, IsApplied, SentNow, SentTo, after_admitting, after_cause}
 use Rattle.run_rules.specs.Doings.{after_deciding, after_step, deciding, doings_of, epoch, sending}
+use Rattle.run_rules.specs.Doings.Doing.{Gets}
 use Rattle.run_rules.specs.Doings.Doing.{BeginsEpoch, Flushes, Reserves, Sent, Took}
 use Rattle.run_rules.specs.Messages.{HasBye}
 use Rattle.run_rules.specs.Messages.{ComesIn, HasGreeted, HasSaid, HasStopped, IsWelcome, epoch_at, home, stay_of}
@@ -83,7 +84,8 @@ module _ (h : HostId) (e n : ℕ) (b : Body) where
   cause_back (Line line) S o = o
   cause_back Lapse S o = o
   cause_back Evict S o = o
-  cause_back (Freight freight) S o = o
+  cause_back (Freight freight) S (inl q) = absurd (let z : Gets freight.server freight.moves freight.body ≡ Sent h e n b = q in cc)
+  cause_back (Freight freight) S (inr o) = o
   cause_back End S o = o
 
   sent_split : (s : Step) (S : List Doing) → SentTo (after_step s S) h e n b → SentTo S h e n b ⊎ SentNow s h b

@@ -41,6 +41,7 @@ use Rattle.run_history.proofs.Causes.CauseIs.{AppliesNone, Downs, Gives}
 use Rattle.run_answered.specs.Entries.{entered, entry_as}
 use Rattle.run_rules.specs.Doings.{Doing, Here, IsApplied, SentTo, TakenNow, TookNow, WasWritten, after_cause}
 use Rattle.run_rules.specs.Doings.{after_deciding, after_step, deciding, doings_of, epoch}
+use Rattle.run_rules.specs.Doings.Doing.{Gets}
 use Rattle.run_rules.specs.Doings.Doing.{BeginsEpoch, Flushes, MakesWant, Sent, Took, WritesDown}
 use Rattle.run_rules.specs.HostAsks.{HasChanged}
 use Rattle.run_rules.specs.Kept.{filesets_after, filesets_kept, filesets_through}
@@ -165,7 +166,7 @@ module _ (P : List Doing → Doing → Type 0) where
   cause_on (Line line) S o = o
   cause_on Lapse S o = o
   cause_on Evict S o = o
-  cause_on (Freight freight) S o = o
+  cause_on (Freight freight) S o = inr o
   cause_on End S o = o
 
   pub step_on : (s : Step) (S : List Doing) → Once P S → Once P (after_step s S)
@@ -182,7 +183,8 @@ wrote_cause w Flushed S (inr o) = o
 wrote_cause w (Line line) S o = o
 wrote_cause w Lapse S o = o
 wrote_cause w Evict S o = o
-wrote_cause w (Freight freight) S o = o
+wrote_cause w (Freight freight) S (inl q) = absurd (let z : Gets freight.server freight.moves freight.body ≡ WritesDown w = q in cc)
+wrote_cause w (Freight freight) S (inr o) = o
 wrote_cause w End S o = o
 
 module _ (script : Script) (start : Tree) (firsts : ServerId → ℕ) (real : (v : ServerId) → 0 < firsts v)
@@ -291,7 +293,8 @@ module _ (script : Script) (start : Tree) (firsts : ServerId → ℕ) (real : (v
       go (Line line) q o = inl o
       go Lapse q o = inl o
       go Evict q o = inl o
-      go (Freight freight) q o = inl o
+      go (Freight freight) q (inl k) = absurd (let z : Gets freight.server freight.moves freight.body ≡ _ = k.1.2.0 in cc)
+      go (Freight freight) q (inr o) = inl o
       go End q o = inl o
 
   -- what a first give-back of the host applies

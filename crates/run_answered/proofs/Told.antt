@@ -17,6 +17,7 @@ use Rattle.run_contents.proofs.Grants.{same_decisions}
 use Rattle.run_history.proofs.Waiting.{AllFresh}
 use Rattle.run_rules.specs.Doings.{Doing, SentTo, WasWritten, admitting, after_admitting, after_cause, after_deciding}
 use Rattle.run_rules.specs.Doings.{after_sending, after_step, deciding, epoch, sending}
+use Rattle.run_rules.specs.Doings.Doing.{Gets}
 use Rattle.run_rules.specs.Doings.Doing.{Admits, BeginsEpoch, Flushes, MakesWant, Reserves, Sent, Took, WritesDown}
 use Rattle.run_rules.specs.Kept.{filesets_after, filesets_kept, filesets_through}
 use Rattle.run_rules.specs.Past.{EachInTurn, Once, appended}
@@ -145,7 +146,7 @@ causes Flushed S old = on S Flushes (λ w e. cc) (λ h e n b q. cc) (λ w e. cc)
 causes (Line line) S old = old
 causes Lapse S old = old
 causes Evict S old = old
-causes (Freight freight) S old = old
+causes (Freight freight) S old = on S (Gets freight.server freight.moves freight.body) (λ w e. cc) (λ h e n b q. cc) (λ w e. cc) refl old
 causes End S old = old
 
 same_want : (v w : Wanted) → MakesWant v ≡ MakesWant w → v ≡ w

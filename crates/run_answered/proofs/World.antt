@@ -16,6 +16,7 @@ use Rattle.run_contents.proofs.Calls.{grows, open_last}
 use Rattle.run_answered.proofs.Told.{Told, WrittenIn, step_told, told_first}
 use Rattle.run_rules.specs.Doings.{Doing, TookNow, admitting, after_admitting, after_cause, after_deciding, after_step}
 use Rattle.run_rules.specs.Doings.{deciding, doings_of, epoch, sending}
+use Rattle.run_rules.specs.Doings.Doing.{Gets}
 use Rattle.run_rules.specs.Doings.Doing.{Admits, BeginsEpoch, Flushes, MakesWant, Moves, Reserves, Sent, Took}
 use Rattle.run_rules.specs.Doings.Doing.{WritesDown}
 use Rattle.run_rules.specs.Messages.{Said}
@@ -119,7 +120,7 @@ asked_causes Flushed S old = on Flushes S (λ w e. cc) old
 asked_causes (Line line) S old = old
 asked_causes Lapse S old = old
 asked_causes Evict S old = old
-asked_causes (Freight freight) S old = old
+asked_causes (Freight freight) S old = on (Gets freight.server freight.moves freight.body) S (λ w e. cc) old
 asked_causes End S old = old
 
 asked_decides : (v : ServerId) (xs : List Applied) (S : List Doing) → EachInTurn (ServerTokens v) (deciding xs) S
@@ -228,7 +229,8 @@ module _ (script : Script) (start : Tree) (firsts : ServerId → ℕ) (real : (v
         go (Line line) q o = old o
         go Lapse q o = old o
         go Evict q o = old o
-        go (Freight freight) q o = old o
+        go (Freight freight) q (inl t) = absurd (let z : Gets freight.server freight.moves freight.body ≡ Took h e n b = t in cc)
+        go (Freight freight) q (inr o) = old o
         go End q o = old o
 
     step_heard : (v : ServerId) (past : List Step) (s : Step) (S : List Doing) → CameToServer v past s

@@ -28,6 +28,7 @@ use Rattle.tree_laws.specs.Parts.{cell_in}
 use Rattle.tree_laws.specs.Parts.Part.{Traits}
 use Rattle.run_rules.specs.Doings.{Doing, Granted, admitting, after_admitting, after_cause, after_deciding, after_step}
 use Rattle.run_rules.specs.Doings.{deciding, doings_of, epoch, sending}
+use Rattle.run_rules.specs.Doings.Doing.{Gets}
 use Rattle.run_rules.specs.Doings.Doing.{Admits, BeginsEpoch, Flushes, MakesWant, Moves, Reserves, Sent, Took}
 use Rattle.run_rules.specs.Doings.Doing.{WritesDown}
 use Rattle.run_rules.specs.Kept.{filesets_after, filesets_kept, filesets_through}
@@ -284,8 +285,9 @@ module _ (script : Script) (start : Tree) (firsts : ServerId → ℕ) (past : Li
           bare (no_message v S tree s g.works.applies (λ m q. let r : Evict ≡ Came m = sym e ∙ q in cc))
           (ap (λ x. after_cause x S) (sym e))
       causes (Freight freight) e =
-          bare (no_message v S tree s g.works.applies (λ m q. let r : Freight freight ≡ Came m = sym e ∙ q in cc))
-          (ap (λ x. after_cause x S) (sym e))
+          without (Gets freight.server freight.moves freight.body) (no_message v S tree s g.works.applies (λ m q. let r : (Freight freight) ≡ Came m = sym e ∙ q in cc))
+          (λ h d n b q. let r : Gets freight.server freight.moves freight.body ≡ Sent h d n b = q in cc)
+          (λ h d n b q. let r : Gets freight.server freight.moves freight.body ≡ Took h d n b = q in cc) (λ p. let q = p.1 in cc) (ap (λ x. after_cause x S) (sym e))
       causes End e =
           bare (no_message v S tree s g.works.applies (λ m q. let r : End ≡ Came m = sym e ∙ q in cc))
           (ap (λ x. after_cause x S) (sym e))

@@ -16,6 +16,7 @@ use Rattle.token_types.specs.Conflicts.{need_of}
 use Rattle.token_types.specs.declared.token.Token.{Token}
 use Rattle.run_rules.specs.Doings.{Doing, IsNewEpoch, TakenNow, TookNow, admitting, after_admitting, after_cause}
 use Rattle.run_rules.specs.Doings.{after_deciding, after_sending, after_step, deciding, doings_of, epoch, sending}
+use Rattle.run_rules.specs.Doings.Doing.{Gets}
 use Rattle.run_rules.specs.Doings.Doing.{Admits, BeginsEpoch, Flushes, MakesWant, Reserves, Sent, Took, WritesDown}
 use Rattle.run_rules.specs.Kept.{filesets_after, filesets_kept, filesets_through}
 use Rattle.run_rules.specs.Past.{EachInTurn, In, appended}
@@ -77,7 +78,7 @@ causes Flushed S old = on S Flushes (λ w e. absurd (cc)) old
 causes (Line line) S old = old
 causes Lapse S old = old
 causes Evict S old = old
-causes (Freight freight) S old = old
+causes (Freight freight) S old = on S (Gets freight.server freight.moves freight.body) (λ w e. absurd (cc)) old
 causes End S old = old
 
 -- what is taken in a step is so once its cause is

@@ -18,6 +18,7 @@ use Rattle.token_types.specs.declared.token.Token.{Token}
 use Rattle.tree_laws.specs.Parts.{Part}
 use Rattle.run_rules.specs.Doings.{Doing, SentTo, TookNow, admitting, after_admitting, after_cause, after_deciding}
 use Rattle.run_rules.specs.Doings.{after_sending, after_step, deciding, doings_of, epoch, sending}
+use Rattle.run_rules.specs.Doings.Doing.{Gets}
 use Rattle.run_rules.specs.Doings.Doing.{Admits, BeginsEpoch, Flushes, MakesWant, Moves, Reserves, Sent, Took}
 use Rattle.run_rules.specs.Doings.Doing.{WritesDown}
 use Rattle.run_rules.specs.Messages.{Said}
@@ -113,7 +114,7 @@ causes Flushed S old = other S Flushes (λ h e n b q. cc) old
 causes (Line line) S old = old
 causes Lapse S old = old
 causes Evict S old = old
-causes (Freight freight) S old = old
+causes (Freight freight) S old = other S (Gets freight.server freight.moves freight.body) (λ h e n b q. cc) old
 causes End S old = old
 
 module _ (firsts : ServerId → ℕ) where
@@ -173,7 +174,8 @@ module _ (h : HostId) (e n : ℕ) (b : Body) where
   by_cause (Line line) S i = inr i
   by_cause Lapse S i = inr i
   by_cause Evict S i = inr i
-  by_cause (Freight freight) S i = inr i
+  by_cause (Freight freight) S (inl q) = absurd (cc)
+  by_cause (Freight freight) S (inr i) = inr i
   by_cause End S i = inr i
 
   in_step : (s : Step) (S : List Doing) → In (Took h e n b) (after_step s S)

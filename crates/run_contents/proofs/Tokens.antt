@@ -15,6 +15,7 @@ use Rattle.script_lines.specs.declared.script.Script.{Script}
 use Rattle.token_types.specs.declared.token.Token.{Token}
 use Rattle.run_rules.specs.Doings.{Doing, Granted, IsNewlyGranted, admitting, after_admitting, after_cause}
 use Rattle.run_rules.specs.Doings.{after_deciding, after_sending, after_step, deciding, doings_of, epoch, sending}
+use Rattle.run_rules.specs.Doings.Doing.{Gets}
 use Rattle.run_rules.specs.Doings.Doing.{Admits, BeginsEpoch, Flushes, MakesWant, Moves, Reserves, Sent, Took}
 use Rattle.run_rules.specs.Doings.Doing.{WritesDown}
 use Rattle.run_rules.specs.Messages.{Said}
@@ -117,7 +118,7 @@ module _ (script : Script) (v : ServerId) where
   causes (Line line) S old = old
   causes Lapse S old = old
   causes Evict S old = old
-  causes (Freight freight) S old = old
+  causes (Freight freight) S old = plain S (Gets freight.server freight.moves freight.body) (λ h e n b q. cc) (λ h ts q. cc) old
   causes End S old = old
 
   module _ (start : Tree) (firsts : ServerId → ℕ) (past : List Step) (run : StepsMeet script start firsts past) where

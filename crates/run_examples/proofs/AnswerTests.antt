@@ -182,7 +182,8 @@ module _ (server : ServerId) (past : List Doing) (s : Step) where
   claim_from (LineOf line) c h n claim t first x = absurd (first (claims_before h n claim t x))
   claim_from Lapse c h n claim t first x = absurd (first (claims_before h n claim t x))
   claim_from Evict c h n claim t first x = absurd (first (claims_before h n claim t x))
-  claim_from (Freight freight) c h n claim t first x = absurd (first (claims_before h n claim t x))
+  claim_from (Freight freight) c h n claim t first (inl (is, l)) = absurd (let p = is in cc)
+  claim_from (Freight freight) c h n claim t first (inr (x, b)) = absurd (first (claims_before h n claim t x))
   claim_from End c h n claim t first x = absurd (first (claims_before h n claim t x))
 
   pub all_answered : passes (answer_list past s) ≡ true → OnlyAnswers past s × ServerAnswers server past s

@@ -46,7 +46,7 @@ cause_on P Flushed S o = inr o
 cause_on P (Line line) S o = o
 cause_on P Lapse S o = o
 cause_on P Evict S o = o
-cause_on P (Freight freight) S o = o
+cause_on P (Freight freight) S o = inr o
 cause_on P End S o = o
 
 pub from_cause : (P : List Doing → Doing → Type 0) (S : List Doing) (s : Step) → Once P (after_cause s.cause S)

@@ -24,6 +24,7 @@ use Rattle.message_types.specs.declared.message.Message.{Message}
 use Rattle.run_rules.specs.Doings.{Doing, GivesUp, GoesAway, Granted, Listed, NoGrace, Pinned, admitting}
 use Rattle.run_rules.specs.Doings.{after_admitting, after_cause, after_deciding, after_sending, after_step, deciding}
 use Rattle.run_rules.specs.Doings.{doings_of, epoch, sending}
+use Rattle.run_rules.specs.Doings.Doing.{Gets}
 use Rattle.run_rules.specs.Doings.Doing.{Admits, BeginsEpoch, Flushes, MakesWant, Reserves, Sent, Took, WritesDown}
 use Rattle.run_rules.specs.HostAsks.{FetchNeeds}
 use Rattle.run_rules.specs.HostAsks.FetchNeeds.{OfDirectory, OfFile, OfUnknown}
@@ -98,7 +99,7 @@ causes Flushed S old = on S Flushes (λ w e. cc) old
 causes (Line line) S old = old
 causes Lapse S old = old
 causes Evict S old = old
-causes (Freight freight) S old = old
+causes (Freight freight) S old = on S (Gets freight.server freight.moves freight.body) (λ w e. cc) old
 causes End S old = old
 
 admits : (cs : List Admission) (S : List Doing) → AllNeed S → AllNeed (appended (admitting cs) S)

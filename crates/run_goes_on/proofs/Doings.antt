@@ -17,6 +17,7 @@ use Rattle.message_types.specs.declared.telling.Done.{Done as DoneOf}
 use Rattle.run_rules.specs.Doings.{Doing, HasReclaimed, InEpoch, IsNewEpoch, Issued, Issues, Listed, ListedNow}
 use Rattle.run_rules.specs.Doings.{SentTo, StayStamp, TookNow, admitting, after_admitting, after_cause, after_deciding}
 use Rattle.run_rules.specs.Doings.{after_sending, after_step, deciding, doings_of, epoch, sending}
+use Rattle.run_rules.specs.Doings.Doing.{Gets}
 use Rattle.run_rules.specs.Doings.Doing.{Admits, BeginsEpoch, Flushes, MakesWant, Moves, Reserves, Sent, Took}
 use Rattle.run_rules.specs.Doings.Doing.{WritesDown}
 use Rattle.run_rules.specs.Messages.{Said}
@@ -226,7 +227,7 @@ module _ (v : ServerId) (h : HostId) where
   causes (Line line) S old = old
   causes Lapse S old = old
   causes Evict S old = old
-  causes (Freight freight) S old = old
+  causes (Freight freight) S old = on (Gets freight.server freight.moves freight.body) S (λ k e n b q. absurd (cc)) (λ k ts q. absurd (cc)) old
   causes End S old = old
 
   decides : (xs : List Applied) (S : List Doing) → Knows S → Knows (appended (deciding xs) S)
@@ -351,7 +352,8 @@ module _ (h : HostId) (e n : ℕ) (b : Body) where
   took_cause v past s S came (Line line) q o = inl o
   took_cause v past s S came Lapse q o = inl o
   took_cause v past s S came Evict q o = inl o
-  took_cause v past s S came (Freight freight) q o = inl o
+  took_cause v past s S came (Freight freight) q (inl t) = absurd (let z : Gets freight.server freight.moves freight.body ≡ Took h e n b = t in cc)
+  took_cause v past s S came (Freight freight) q (inr o) = inl o
   took_cause v past s S came End q o = inl o
 
   took_step : (v : ServerId) (past : List Step) (s : Step) (S : List Doing) → CameToServer v past s

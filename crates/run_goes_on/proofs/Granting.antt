@@ -12,6 +12,7 @@ use Rattle.message_types.specs.declared.tokens.Revoke.{Revoke as RevokeOf}
 use Rattle.run_rules.specs.Doings.{Doing, Enlists, Granted, HasReclaimed, IsNewlyGranted, Issued, Issues, Pinned}
 use Rattle.run_rules.specs.Doings.{StayStamp, admitting, after_admitting, after_cause, after_deciding, after_sending}
 use Rattle.run_rules.specs.Doings.{after_step, deciding, epoch, sending}
+use Rattle.run_rules.specs.Doings.Doing.{Gets}
 use Rattle.run_rules.specs.Doings.Doing.{Admits, BeginsEpoch, Flushes, MakesWant, Moves, Reserves, Sent, Took}
 use Rattle.run_rules.specs.Doings.Doing.{WritesDown}
 use Rattle.run_rules.specs.Past.{EachInTurn, In, appended}
@@ -126,7 +127,7 @@ module _ (v : ServerId) (t : Token) (x : StayStamp) where
   keep_cause (Line line) S T k = k
   keep_cause Lapse S T k = k
   keep_cause Evict S T k = k
-  keep_cause (Freight freight) S T k = k
+  keep_cause (Freight freight) S T k = keep_plain S T (Gets freight.server freight.moves freight.body) ((λ h e n b q. cc), (λ h ts q. cc)) k
   keep_cause End S T k = k
 
 -- # A Revoke names granted tokens, which are granted after its step

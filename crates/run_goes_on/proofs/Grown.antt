@@ -12,6 +12,7 @@ use Rattle.run_rules.specs.Doings.{Doing, Enlists, HasReclaimed, Hears, InEpoch,
 use Rattle.run_rules.specs.Doings.{admitting, after_admitting}
 use Rattle.run_rules.specs.Doings.{after_cause, after_deciding, after_sending, after_step, deciding, doings_of, epoch}
 use Rattle.run_rules.specs.Doings.{sending}
+use Rattle.run_rules.specs.Doings.Doing.{Gets}
 use Rattle.run_rules.specs.Doings.Doing.{Admits, BeginsEpoch, Flushes, MakesWant, Moves, Reserves, Sent, Took}
 use Rattle.run_rules.specs.Doings.Doing.{WritesDown}
 use Rattle.run_rules.specs.Past.{EachInTurn, In, Once, appended}
@@ -44,7 +45,7 @@ module _ (Q : List Doing → Type 0) (one : (S : List Doing) (a : Doing) → Q S
   cause_each (Line line) S q = q
   cause_each Lapse S q = q
   cause_each Evict S q = q
-  cause_each (Freight freight) S q = q
+  cause_each (Freight freight) S q = one S (Gets freight.server freight.moves freight.body) q
   cause_each End S q = q
 
   pub caused_on : (s : Step) (S : List Doing) → Q (after_cause s.cause S) → Q (after_step s S)
@@ -124,7 +125,7 @@ module _ (P : List Doing → Doing → Type 0) where
   in_cause (Line line) S same x = x
   in_cause Lapse S same x = x
   in_cause Evict S same x = x
-  in_cause (Freight freight) S same x = x
+  in_cause (Freight freight) S same x = inr (x, λ k. (let z : Gets freight.server freight.moves freight.body ≡ BeginsEpoch k.0 = k.1 in cc))
   in_cause End S same x = x
 
   -- # What no want, no Change that is written down, makes so was so before those
@@ -344,7 +345,9 @@ module _ (h : HostId) where
   reclaims_cause (Line line) S l r = r
   reclaims_cause Lapse S l r = r
   reclaims_cause Evict S l r = r
-  reclaims_cause (Freight freight) S l r = r
+  reclaims_cause (Freight freight) S l (inl (inl (ts, q))) = absurd (let z : Gets freight.server freight.moves freight.body ≡ Admits h ts = q in cc)
+  reclaims_cause (Freight freight) S l (inl (inr x)) = absurd (x.1 l)
+  reclaims_cause (Freight freight) S l (inr r) = r.0
   reclaims_cause End S l r = r
 
 -- of each admission of a step: what it may admit, after those before it
@@ -410,7 +413,8 @@ module _ (h : HostId) (e n : ℕ) (b : Body) where
   sent_cause (Line line) S o = o
   sent_cause Lapse S o = o
   sent_cause Evict S o = o
-  sent_cause (Freight freight) S o = o
+  sent_cause (Freight freight) S (inl q) = absurd (let z : Gets freight.server freight.moves freight.body ≡ Sent h e n b = q in cc)
+  sent_cause (Freight freight) S (inr o) = o
   sent_cause End S o = o
 
   -- it was sent before the step, or the step sends it
@@ -470,7 +474,8 @@ module _ (h : HostId) where
   listed_cause (Line line) S k = inl k
   listed_cause Lapse S k = inl k
   listed_cause Evict S k = inl k
-  listed_cause (Freight freight) S k = inl k
+  listed_cause (Freight freight) S (inl k) = let q = k.0 in absurd (let z : Gets freight.server freight.moves freight.body ≡ Took h q.0 q.1 Hello = q.2 in cc)
+  listed_cause (Freight freight) S (inr k) = inl k
   listed_cause End S k = inl k
 
   pub listed_step : (s : Step) (S : List Doing) → Listed (after_step s S) h

@@ -15,6 +15,7 @@ use Rattle.message_types.specs.declared.message.Message.{Message}
 use Rattle.message_types.specs.declared.telling.Done.{Done as DoneOf}
 use Rattle.run_rules.specs.Doings.{Doing, SentTo, TakenNow, WasWritten, admitting, after_admitting, after_cause}
 use Rattle.run_rules.specs.Doings.{after_deciding, after_step, deciding, doings_of, epoch, sending}
+use Rattle.run_rules.specs.Doings.Doing.{Gets}
 use Rattle.run_rules.specs.Doings.Doing.{Admits, BeginsEpoch, Flushes, MakesWant, Moves, Reserves, Sent, Took}
 use Rattle.run_rules.specs.Doings.Doing.{WritesDown}
 use Rattle.run_rules.specs.HostAsks.{IsChangeNumber, IsNextNumber}
@@ -152,7 +153,8 @@ module _ (h : HostId) (fs : FilesetId) (k : ℕ) where
   written_cause (Line line) S o = o
   written_cause Lapse S o = o
   written_cause Evict S o = o
-  written_cause (Freight freight) S o = o
+  written_cause (Freight freight) S (inl x) = absurd (let z : Gets freight.server freight.moves freight.body ≡ WritesDown x.0 = x.1 in cc)
+  written_cause (Freight freight) S (inr o) = o
   written_cause End S o = o
 
   written_split : (s : Step) (S : List Doing) → WasWritten (after_step s S) h fs k

@@ -23,6 +23,7 @@ use Rattle.message_types.specs.declared.tokens.Revoke.{Revoke as RevokeOf}
 use Rattle.run_rules.specs.Doings.{Doing, Enlists, Granted, HasReclaimed, Here, InEpoch, IsLive, Issued, Issues, Pinned}
 use Rattle.run_rules.specs.Doings.{SentNow, StayStamp, after_admitting, after_cause, after_deciding}
 use Rattle.run_rules.specs.Doings.{after_step, doings_of, epoch, sending}
+use Rattle.run_rules.specs.Doings.Doing.{Gets}
 use Rattle.run_rules.specs.Doings.Doing.{Admits, BeginsEpoch, Flushes, MakesWant, Reserves, Sent, Took, WritesDown}
 use Rattle.run_rules.specs.HostDue.{AnswersOf, HasDirty, HostDue, RevokeDue}
 use Rattle.run_rules.specs.HostMay.{HostMay, IsExact}
@@ -108,7 +109,8 @@ module _ (t : Token) where
   asks_cause (Line line) S x = (x, refl)
   asks_cause Lapse S x = (x, refl)
   asks_cause Evict S x = (x, refl)
-  asks_cause (Freight freight) S x = (x, refl)
+  asks_cause (Freight freight) S (inl a) = absurd (let z : Gets freight.server freight.moves freight.body ≡ Sent t.host a.0 a.1 (Revoke a.2) = a.3 in cc)
+  asks_cause (Freight freight) S (inr x) = (x.0, refl)
   asks_cause End S x = (x, refl)
 
 -- # A label in use is of a token that was taken, of a lock or an open file

@@ -9,6 +9,7 @@ use Rattle.script_lines.specs.declared.script.Script.{Script}
 use Rattle.message_types.specs.declared.message.Message.{Message}
 use Rattle.run_rules.specs.Doings.{Doing, admitting, after_admitting, after_cause, after_deciding, after_sending}
 use Rattle.run_rules.specs.Doings.{after_step, deciding, doings_of, epoch, sending}
+use Rattle.run_rules.specs.Doings.Doing.{Gets}
 use Rattle.run_rules.specs.Doings.Doing.{Admits, BeginsEpoch, Flushes, MakesWant, Reserves, Sent, Took, WritesDown}
 use Rattle.run_rules.specs.Kept.{filesets_after, filesets_kept, filesets_through}
 use Rattle.run_rules.specs.Past.{Always, appended}
@@ -91,7 +92,7 @@ causes Flushed S old = on S Flushes (λ w e. absurd (cc)) old
 causes (Line line) S old = old
 causes Lapse S old = old
 causes Evict S old = old
-causes (Freight freight) S old = old
+causes (Freight freight) S old = on S (Gets freight.server freight.moves freight.body) (λ w e. absurd (cc)) old
 causes End S old = old
 
 decides : (v : ServerId) (before : List Doing) (s : Step) (xs : List Applied) (tree : Tree) (S : List Doing)

@@ -16,6 +16,7 @@ use Rattle.message_types.specs.declared.message.Message.{Message}
 use Rattle.run_rules.specs.Doings.{Doing, GoesAway, HasGoneAway, Listed, SentTo, TakenNow, TookNow, admitting}
 use Rattle.run_rules.specs.Doings.{after_admitting, after_cause, after_deciding, after_sending, after_step, deciding}
 use Rattle.run_rules.specs.Doings.{doings_of, epoch, sending}
+use Rattle.run_rules.specs.Doings.Doing.{Gets}
 use Rattle.run_rules.specs.Doings.Doing.{Admits, BeginsEpoch, Flushes, MakesWant, Reserves, Sent, Took, WritesDown}
 use Rattle.run_rules.specs.HostTokens.{IsUnused, MayEvict}
 use Rattle.run_rules.specs.Kept.{filesets_after, filesets_kept, filesets_through}
@@ -139,7 +140,7 @@ causes Flushed S old = on S Flushes (λ w e. cc) old
 causes (LineOf line) S old = old
 causes Lapse S old = old
 causes Evict S old = old
-causes (Freight freight) S old = old
+causes (Freight freight) S old = on S (Gets freight.server freight.moves freight.body) (λ w e. cc) old
 causes End S old = old
 
 admits : (cs : List Admission) (S : List Doing) → AllHere S → AllHere (appended (admitting cs) S)

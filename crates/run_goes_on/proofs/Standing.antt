@@ -23,6 +23,7 @@ use Rattle.run_rules.specs.Doings.{Doing, GoesAway, HasGoneAway, HasReclaimed, I
 use Rattle.run_rules.specs.Doings.{SentTo, TakenNow, WasWritten, admitting, after_admitting, after_cause}
 use Rattle.run_rules.specs.Doings.{after_deciding}
 use Rattle.run_rules.specs.Doings.{after_sending, after_step, deciding, doings_of, epoch, sending}
+use Rattle.run_rules.specs.Doings.Doing.{Gets}
 use Rattle.run_rules.specs.Doings.Doing.{Admits, Flushes, MakesWant, Reserves, Sent, Took, WritesDown}
 use Rattle.run_rules.specs.HostAsks.{IsChangeNumber}
 use Rattle.run_rules.specs.HostDue.{HostDue, IsUnanswered}
@@ -490,7 +491,14 @@ module _ (script : Script) (start : Tree) (firsts : ServerId → ℕ) (real : (v
       keep_cause (Line line) is has = has
       keep_cause Lapse is has = has
       keep_cause Evict is has = has
-      keep_cause (Freight freight) is has = has
+      keep_cause (Freight freight) is has =
+          keep S (Gets freight.server freight.moves freight.body)
+          (keep_quiet S (Gets freight.server freight.moves freight.body) (λ j d k c z. cc) (λ y z. cc) (λ y z. cc) (λ gone. none_goes gone)
+          (λ new. (let z = new.1 in cc))) has
+        where
+          none_goes : GoesAway S (Gets freight.server freight.moves freight.body) host → ⊥
+          none_goes (inl z) = let y = z.2 in cc
+          none_goes (inr z) = let y = z.0.1 in cc
       keep_cause End is has = has
 
       -- a want that is made in its place is one of it

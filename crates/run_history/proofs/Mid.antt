@@ -104,7 +104,7 @@ module _ (script : Script) (start : Tree) (firsts : ServerId → ℕ) (real : (v
   taken_next (Line line) more each at = (at, each)
   taken_next Lapse more each at = (at, each)
   taken_next Evict more each at = (at, each)
-  taken_next (Freight freight) more each at = (at, each)
+  taken_next (Freight freight) more each at = (each.0.next at, each.1)
   taken_next End more each at = (at, each)
 
   serve_them : (h : HostId) (todo : List Doing) → EachInTurn (Next own_of v) todo S
@@ -125,7 +125,7 @@ module _ (script : Script) (start : Tree) (firsts : ServerId → ℕ) (real : (v
   taken_uses (Line line) more each h = serve_them h [] tt
   taken_uses Lapse more each h = serve_them h [] tt
   taken_uses Evict more each h = serve_them h [] tt
-  taken_uses (Freight freight) more each h = serve_them h [] tt
+  taken_uses (Freight freight) more each h = serve_them h (doings_cause (Freight freight) S []) (each.0, tt)
   taken_uses End more each h = serve_them h [] tt
 
   issued_past : (c : Cause) (t : Token) (x : StayStamp) → Issued S t x → Issued (after_cause c S) t x
@@ -135,7 +135,7 @@ module _ (script : Script) (start : Tree) (firsts : ServerId → ℕ) (real : (v
   issued_past (Line line) t x i = i
   issued_past Lapse t x i = i
   issued_past Evict t x i = i
-  issued_past (Freight freight) t x i = i
+  issued_past (Freight freight) t x i = inr i
   issued_past End t x i = i
 
   m : StepMeets script start firsts (Server v) past s

@@ -12,6 +12,7 @@ use Rattle.script_lines.specs.declared.script.Script.{Script}
 use Rattle.tree_laws.proofs.Steps.{same_number}
 use Rattle.tree_laws.specs.Parts.{Cell, Part, Seen}
 use Rattle.run_rules.specs.Doings.{Doing, admitting, doings_of, epoch, sending}
+use Rattle.run_rules.specs.Doings.Doing.{Gets}
 use Rattle.run_rules.specs.Doings.Doing.{BeginsEpoch, Flushes, Reserves, Took}
 use Rattle.run_rules.specs.Kept.{filesets_kept, filesets_through}
 use Rattle.run_rules.specs.Runs.{StepMeets, StepsMeet}
@@ -131,7 +132,7 @@ module _ (script : Script) (start : Tree) (firsts : ServerId → ℕ) (c : Conte
       go (Line line) e = none (Line line) e (λ m q. cc)
       go Lapse e = none Lapse e (λ m q. cc)
       go Evict e = none Evict e (λ m q. cc)
-      go (Freight freight) e = none (Freight freight) e (λ m q. cc)
+      go (Freight freight) e = one (Gets freight.server freight.moves freight.body)
       go End e = none End e (λ m q. cc)
 
   -- the cells after the step

@@ -23,6 +23,7 @@ use Rattle.script_lines.specs.declared.script.Script.{Script}
 use Rattle.tree_laws.specs.Parts.Part.{ByteAt}
 use Rattle.run_rules.specs.Doings.{Doing, SentTo, admitting, after_admitting, after_cause, after_deciding, after_step}
 use Rattle.run_rules.specs.Doings.{deciding, doings_of, epoch, sending}
+use Rattle.run_rules.specs.Doings.Doing.{Gets}
 use Rattle.run_rules.specs.Doings.Doing.{Admits, BeginsEpoch, Flushes, MakesWant, Moves, Reserves, Sent, Took}
 use Rattle.run_rules.specs.Doings.Doing.{WritesDown}
 use Rattle.run_rules.specs.HostMay.{HostMay}
@@ -91,7 +92,7 @@ module _ (script : Script) (h : HostId) (e n : ℕ) (b : Body) where
   causes (Line line) S old = old
   causes Lapse S old = old
   causes Evict S old = old
-  causes (Freight freight) S old = old
+  causes (Freight freight) S old = other S (Gets freight.server freight.moves freight.body) (λ q. cc) old
   causes End S old = old
 
   steps : (s : Step) (S : List Doing) → ((m : Message) → In m s.sent → IsSound script.roster m) → AllSound S

@@ -15,6 +15,7 @@ use Rattle.run_parts.specs.Uses.{Frees, FreesAny}
 use Rattle.run_contents.proofs.Bodies.{cases_nat, here, is_down, is_give, live}
 use Rattle.run_contents.proofs.Caused.{no_message}
 use Rattle.run_rules.specs.Doings.{Doing, HasGoneDown, Here, IsApplied, IsLive, admitting, deciding, epoch, sending}
+use Rattle.run_rules.specs.Doings.Doing.{Gets}
 use Rattle.run_rules.specs.Doings.Doing.{Admits, BeginsEpoch, Flushes, MakesWant, Moves, Reserves, Sent, Took}
 use Rattle.run_rules.specs.Doings.Doing.{WritesDown}
 use Rattle.run_rules.specs.Past.{In}
@@ -86,7 +87,7 @@ module _ (v : ServerId) (h : HostId) (u : Labelled) where
     by_message (Line line) f = absurd (none_more S f)
     by_message Lapse f = absurd (none_more S f)
     by_message Evict f = absurd (none_more S f)
-    by_message (Freight freight) f = absurd (none_more S f)
+    by_message (Freight freight) f = absurd (one_less (Gets freight.server freight.moves freight.body) more (λ e n b q. cc) none_more S f)
     by_message End f = absurd (none_more S f)
 
     pub frees_is : FreesAny v (doings s S) S h u
@@ -111,7 +112,8 @@ module _ (v : ServerId) (h : HostId) (u : Labelled) where
         go (Line line) f = absurd (none_more S f)
         go Lapse f = absurd (none_more S f)
         go Evict f = absurd (none_more S f)
-        go (Freight freight) f = absurd (none_more S f)
+        go (Freight freight) (inl f) = inl f
+        go (Freight freight) (inr f) = absurd (none_more (Gets freight.server freight.moves freight.body ∷ S) f)
         go End f = absurd (none_more S f)
 
     pub of_cause : FreesAny v (doings_cause s.cause S []) S h u → FreesAny v (doings s S) S h u
@@ -127,7 +129,8 @@ module _ (v : ServerId) (h : HostId) (u : Labelled) where
         go (Line line) f = elim f [ ]
         go Lapse f = elim f [ ]
         go Evict f = elim f [ ]
-        go (Freight freight) f = elim f [ ]
+        go (Freight freight) (inl f) = inl f
+        go (Freight freight) (inr f) = elim f [ ]
         go End f = elim f [ ]
 
 one_message : (c : Cause) (m n : Message) → c ≡ Came m → c ≡ Came n → m ≡ n
@@ -227,7 +230,7 @@ module _ (v : ServerId) (S : List Doing) (tree : Tree) (s : Step) (k : ServerApp
             absurd (some (no_message v S tree s k (λ m q. (let r : Line line ≡ Came m = sym e ∙ q in cc))))
         go Lapse e = absurd (some (no_message v S tree s k (λ m q. (let r : Lapse ≡ Came m = sym e ∙ q in cc))))
         go Evict e = absurd (some (no_message v S tree s k (λ m q. (let r : Evict ≡ Came m = sym e ∙ q in cc))))
-        go (Freight freight) e = absurd (some (no_message v S tree s k (λ m q. (let r : Freight freight ≡ Came m = sym e ∙ q in cc))))
+        go (Freight freight) e = absurd (some (no_message v S tree s k (λ m q. (let r : (Freight freight) ≡ Came m = sym e ∙ q in cc))))
         go End e = absurd (some (no_message v S tree s k (λ m q. (let r : End ≡ Came m = sym e ∙ q in cc))))
 
 -- the end of a use stands before what is decided

@@ -12,6 +12,7 @@ use Rattle.script_lines.specs.declared.script.Script.{Script}
 use Rattle.tree_laws.proofs.Steps.{same_number}
 use Rattle.tree_laws.specs.Parts.{Cell, Part, Seen}
 use Rattle.run_rules.specs.Doings.{Doing, admitting, after_cause, doings_of, epoch, sending}
+use Rattle.run_rules.specs.Doings.Doing.{Gets}
 use Rattle.run_rules.specs.Doings.Doing.{BeginsEpoch, Flushes, MakesWant, Moves, Reserves, Took, WritesDown}
 use Rattle.run_rules.specs.Kept.{filesets_after, filesets_kept, filesets_through}
 use Rattle.run_rules.specs.Past.{Always}
@@ -109,7 +110,7 @@ module _ (v : ServerId) (cause : Cause) where
     from_cause (Line line) g none = bare g (none (λ m q. cc))
     from_cause Lapse g none = bare g (none (λ m q. cc))
     from_cause Evict g none = bare g (none (λ m q. cc))
-    from_cause (Freight freight) g none = bare g (none (λ m q. cc))
+    from_cause (Freight freight) g none = one (Gets freight.server freight.moves freight.body) g
     from_cause End g none = bare g (none (λ m q. cc))
 
 module _ (script : Script) (journal : Journal) (run : IsRun script journal) (c : Contents)

@@ -15,6 +15,7 @@ use Rattle.message_types.specs.declared.telling.Done.{Done as DoneOf}
 use Rattle.script_lines.specs.declared.script.Script.{Script}
 use Rattle.run_rules.specs.Doings.{Doing, SentTo, admitting, after_admitting, after_cause, after_deciding}
 use Rattle.run_rules.specs.Doings.{after_sending, after_step, deciding, doings_of, epoch, sending}
+use Rattle.run_rules.specs.Doings.Doing.{Gets}
 use Rattle.run_rules.specs.Doings.Doing.{Admits, BeginsEpoch, Flushes, MakesWant, Reserves, Sent, Took, WritesDown}
 use Rattle.run_rules.specs.Kept.{filesets_after, filesets_kept, filesets_through}
 use Rattle.run_rules.specs.Messages.{Changing, ComesIn, DoneComes, Said, Stay, epoch_at, epoch_raised, epoch_raised_by}
@@ -90,7 +91,7 @@ causes Flushed S old = on S Flushes (λ w e. cc) (λ h e n b q. cc) refl old
 causes (Line line) S old = old
 causes Lapse S old = old
 causes Evict S old = old
-causes (Freight freight) S old = old
+causes (Freight freight) S old = on S (Gets freight.server freight.moves freight.body) (λ w e. cc) (λ h e n b q. cc) refl old
 causes End S old = old
 
 same_want : (v w : Wanted) → MakesWant v ≡ MakesWant w → v ≡ w
@@ -163,7 +164,7 @@ cause_sent Flushed S h e n b o = inr o
 cause_sent (Line line) S h e n b o = o
 cause_sent Lapse S h e n b o = o
 cause_sent Evict S h e n b o = o
-cause_sent (Freight freight) S h e n b o = o
+cause_sent (Freight freight) S h e n b o = inr o
 cause_sent End S h e n b o = o
 
 pub sent_later : (s : Step) (S : List Doing) (h : HostId) (e n : ℕ) (b : Body) → SentTo S h e n b

@@ -1,6 +1,7 @@
 -- The doings of a server's step, one after the other: each meets the rules of tokens, and they are those of the step.
 use Rattle.run_rules.specs.Doings.{Doing, Granted, IsNewEpoch, admitting, after_admitting, after_cause, after_deciding}
 use Rattle.run_rules.specs.Doings.{after_sending, after_step, deciding, epoch, sending}
+use Rattle.run_rules.specs.Doings.Doing.{Gets}
 use Rattle.run_rules.specs.Doings.Doing.{Admits, BeginsEpoch, Flushes, MakesWant, Moves, Reserves, Sent, Took}
 use Rattle.run_rules.specs.Doings.Doing.{WritesDown}
 use Rattle.run_rules.specs.Messages.{Said}
@@ -167,7 +168,8 @@ module _ (own_of : HostId → List Step) (alone : (h : HostId) → Alone (own_of
   causes (Line line) S more came rest = rest
   causes Lapse S more came rest = rest
   causes Evict S more came rest = rest
-  causes (Freight freight) S more came rest = rest
+  causes (Freight freight) S more came rest =
+      (act S (Gets freight.server freight.moves freight.body) (flush_may v S) (λ p. let q = p.1 in cc) (λ p. let q = p.1 in cc) refl (λ k d n c e. absurd (cc)), rest)
   causes End S more came rest = rest
 
   pub each_next : (s : Step) (S : List Doing) → MovesNone s → ServerStep v S s

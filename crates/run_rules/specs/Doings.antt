@@ -15,7 +15,7 @@ use Rattle.message_types.specs.declared.giving.AppliedGive.{AppliedGive}
 use Rattle.message_types.specs.declared.giving.Give.{Give}
 use Rattle.message_types.specs.declared.message.Body.{Body}
 use Rattle.message_types.specs.declared.message.Body.TheVariants.{Bye, Done, Down, GiveBack, Grant, Hello, Kept}
-use Rattle.message_types.specs.declared.message.Body.TheVariants.{Returned, Revoke}
+use Rattle.message_types.specs.declared.message.Body.TheVariants.{Returned, Revoke, Ship, Shipped}
 use Rattle.message_types.specs.declared.message.Message.{Message}
 use Rattle.message_types.specs.declared.telling.Bring.{Bring}
 use Rattle.message_types.specs.declared.telling.Done.{Done as DoneOf}
@@ -35,7 +35,7 @@ use Rattle.run_rules.specs.declared.applied.Move.TheVariants.{Arrives, Back, Lea
 use Rattle.run_rules.specs.declared.applied.Wanted.{Wanted}
 use Rattle.run_rules.specs.declared.applied.Written.{Written}
 use Rattle.run_rules.specs.declared.step.Cause.{Cause}
-use Rattle.run_rules.specs.declared.step.Cause.TheVariants.{Flushed, Message as Came, Restart}
+use Rattle.run_rules.specs.declared.step.Cause.TheVariants.{Flushed, Freight, Message as Came, Restart}
 use Rattle.run_rules.specs.declared.step.Step.{Step}
 
 -- # What a server has of filesets
@@ -73,8 +73,12 @@ pub data Doing : Type 0 where
   Sent : HostId → (epoch moves : ℕ) → Body → Doing
   -- its exporter keeps tokens
   Reserves : List Token → Doing
+  -- it takes a message of another server, with a number of moves
+  Gets : (from : ServerId) → (moves : ℕ) → Body → Doing
   -- what becomes of a fileset that moves
   Moves : Move → Doing
+  -- it sends another server a message, with a number of moves
+  Puts : (to : ServerId) → (moves : ℕ) → Body → Doing
 
 abbrev pub epoch_after : Doing → ℕ → ℕ
 epoch_after (BeginsEpoch epoch) now = epoch
@@ -94,6 +98,7 @@ abbrev pub after_cause : Cause → List Doing → List Doing
 after_cause (Came m) past = Took m.host m.epoch m.moves m.body ∷ past
 after_cause (Restart line) past = BeginsEpoch (suc (epoch past)) ∷ past
 after_cause Flushed past = Flushes ∷ past
+after_cause (Freight m) past = Gets m.server m.moves m.body ∷ past
 after_cause _ past = past
 
 -- wants are made, Changes written down, and filesets come and go; the rest of what is applied belongs to the cause
@@ -112,7 +117,16 @@ admitting admitted = map (λ claim. Admits claim.host claim.tokens) admitted
 abbrev pub sending : List Message → List Doing
 sending sent = map (λ m. Sent m.host m.epoch m.moves m.body) sent
 
--- where a step of the server has come: all is decided; claims are granted; all is sent
+-- to whom a server sends another one a message: its body names it first
+abbrev pub shipped_by_body : Body → ServerId → ServerId
+shipped_by_body (Ship ship) server = ship.to
+shipped_by_body (Shipped shipped) server = shipped.to
+shipped_by_body _ server = server
+
+abbrev pub shipping : List Message → List Doing
+shipping shipped = map (λ m. Puts (shipped_by_body m.body m.server) m.moves m.body) shipped
+
+-- where a step of the server has come: all is decided; claims are granted; all is sent to hosts, and to servers
 abbrev pub after_deciding : Step → List Doing → List Doing
 after_deciding step past = appended (deciding step.applied) (after_cause step.cause past)
 
@@ -122,9 +136,12 @@ after_admitting step past = appended (admitting step.admitted) (after_deciding s
 abbrev pub after_sending : Step → List Doing → List Doing
 after_sending step past = appended (sending step.sent) (after_admitting step past)
 
+abbrev pub after_shipping : Step → List Doing → List Doing
+after_shipping step past = appended (shipping step.shipped) (after_sending step past)
+
 -- the doings after a step of the server
 abbrev pub after_step : Step → List Doing → List Doing
-after_step step past = Reserves step.reserved ∷ after_sending step past
+after_step step past = Reserves step.reserved ∷ after_shipping step past
 
 -- the doings of a server that starts in an epoch
 abbrev pub doings_of : ℕ → ServerId → List Step → List Doing

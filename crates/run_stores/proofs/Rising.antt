@@ -46,7 +46,7 @@ module _ (v : ServerId) where
   caused (Line line) S all = all
   caused Lapse S all = all
   caused Evict S all = all
-  caused (Freight freight) S all = all
+  caused (Freight freight) S all = (all, λ w e number was. absurd (cc))
   caused End S all = all
 
   one_step : (S : List Doing) (s : Step) → ServerStep v S s → Always Rises S → Always Rises (after_step s S)

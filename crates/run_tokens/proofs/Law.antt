@@ -4,6 +4,7 @@ use Rattle.run_rules.specs.Doings.{Doing, Granted, HasGoneAway, HasReclaimed, He
 use Rattle.run_rules.specs.Doings.{SentTo, TakesOf, admitting, after_admitting, after_cause, after_deciding}
 use Rattle.run_tokens.specs.Unmoved.{MovesNone, MovesOne, is_move}
 use Rattle.run_rules.specs.Doings.{after_sending, after_step, deciding, doings_of, epoch, sending}
+use Rattle.run_rules.specs.Doings.Doing.{Gets}
 use Rattle.run_rules.specs.Doings.Doing.{Admits, BeginsEpoch, Flushes, MakesWant, Reserves, Sent, Took, WritesDown}
 use Rattle.run_rules.specs.HostTokens.{HostTokens}
 use Rattle.run_rules.specs.Messages.{ComesIn, HasStopped, Said, home}
@@ -161,7 +162,7 @@ module _ (own_of : HostId → List Step) (alone : (h : HostId) → Alone (own_of
   takes (Line line) S at came = at
   takes Lapse S at came = at
   takes Evict S at came = at
-  takes (Freight freight) S at came = at
+  takes (Freight freight) S at came = act S (Gets freight.server freight.moves freight.body) at (flush_may v S) (λ p. let q = p.1 in cc) (λ p. let q = p.1 in cc) refl (λ k d n c e. absurd (cc))
   takes End S at came = at
 
 pub record Whole (own_of : HostId → List Step) (acts_of : ServerId → List Doing) : Type 0 where

@@ -7,6 +7,7 @@ use Rattle.base_types.specs.declared.ids.ServerId.{ServerId}
 use Rattle.message_types.specs.declared.message.Message.{Message}
 use Rattle.run_rules.specs.Doings.{Doing, Here, Slot, admitting, after_admitting, after_cause, after_deciding}
 use Rattle.run_rules.specs.Doings.{after_sending, after_step, deciding, epoch, sending, slot_by, slot_of}
+use Rattle.run_rules.specs.Doings.Doing.{Gets}
 use Rattle.run_rules.specs.Doings.Doing.{Admits, BeginsEpoch, Flushes, MakesWant, Moves, Reserves, Sent, Took, WritesDown}
 use Rattle.run_rules.specs.Doings.Slot.{Absent, Writable}
 use Rattle.run_rules.specs.Messages.{Stay, first_stay, home}
@@ -82,7 +83,7 @@ cause_put Flushed S put = put_on Flushes S (λ p. let q = p.1 in cc) put
 cause_put (Line line) S put = put
 cause_put Lapse S put = put
 cause_put Evict S put = put
-cause_put (Freight freight) S put = put
+cause_put (Freight freight) S put = put_on (Gets freight.server freight.moves freight.body) S (λ p. let q = p.1 in cc) put
 cause_put End S put = put
 
 pub deciding_put : (xs : List Applied) (S : List Doing) → list_any is_move xs ≡ false → StaysPut S
