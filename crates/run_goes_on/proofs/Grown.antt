@@ -298,6 +298,11 @@ module _ (h : HostId) where
   written_no S w (inr x) =
       let k = enlists_hearing S (WritesDown w) h x in let z : WritesDown w ≡ Took h k.0 k.1 Hello = k.2 in cc
 
+  moved_no : (S : List Doing) (move : Move) → Reclaims S (Moves move) → ⊥
+  moved_no S move (inl (ts, q)) = let z : Moves move ≡ Admits h ts = q in cc
+  moved_no S move (inr x) =
+      let k = enlists_hearing S (Moves move) h x in let z : Moves move ≡ Took h k.0 k.1 Hello = k.2 in cc
+
   sent_no : (S : List Doing) (j : HostId) (e n : ℕ) (b : Body) → Reclaims S (Sent j e n b) → ⊥
   sent_no S j e n b (inl (ts, q)) = let z : Sent j e n b ≡ Admits h ts = q in cc
   sent_no S j e n b (inr x) =
@@ -324,7 +329,7 @@ module _ (h : HostId) where
   reclaims_step s S (inr r) =
       elim (reclaims_admitting s.admitted (after_deciding s S)
       (back_sending Reclaims sent_no s.sent (after_admitting s S) r.0)) [
-        | inl d ↦ inl (back_deciding Reclaims wanted_no written_no s.applied (after_cause s.cause S) d)
+        | inl d ↦ inl (back_deciding Reclaims wanted_no written_no moved_no s.applied (after_cause s.cause S) d)
         | inr k ↦ inr k
       ]
 
