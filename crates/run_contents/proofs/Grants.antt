@@ -14,9 +14,10 @@ use Rattle.message_types.specs.declared.telling.Grant.{Grant as GrantOf}
 use Rattle.script_lines.specs.declared.script.Script.{Script}
 use Rattle.token_types.specs.Conflicts.{need_of}
 use Rattle.token_types.specs.declared.token.Token.{Token}
+use Rattle.run_rules.specs.Doings.{after_shipping}
 use Rattle.run_rules.specs.Doings.{Doing, IsNewEpoch, TakenNow, TookNow, admitting, after_admitting, after_cause}
 use Rattle.run_rules.specs.Doings.{after_deciding, after_sending, after_step, deciding, doings_of, epoch, sending}
-use Rattle.run_rules.specs.Doings.Doing.{Gets}
+use Rattle.run_rules.specs.Doings.Doing.{Gets, Puts}
 use Rattle.run_rules.specs.Doings.Doing.{Admits, BeginsEpoch, Flushes, MakesWant, Reserves, Sent, Took, WritesDown}
 use Rattle.run_rules.specs.Kept.{filesets_after, filesets_kept, filesets_through}
 use Rattle.run_rules.specs.Past.{EachInTurn, In, appended}
@@ -41,6 +42,7 @@ use Rattle.run_rules.specs.declared.step.Cause.TheVariants.{End, Evict, Flushed,
 use Rattle.run_rules.specs.declared.step.Cause.TheVariants.{Restart}
 use Rattle.run_tokens.specs.Unmoved.{is_move}
 use Rattle.run_tokens.proofs.TokenRun.{works_none}
+use Rattle.run_tokens.proofs.Ships.{ships_keep}
 use Rattle.run_rules.specs.declared.step.Step.{Step}
 
 -- a request that waits was taken in this epoch
@@ -166,7 +168,9 @@ module _ (script : Script) (start : Tree) (v : ServerId) (steps : List Step) (S 
 
   done : AllTaken (after_step s S)
   done =
-      on (after_sending s S) (Reserves s.reserved) (λ w e. absurd (cc)) (sents s.sent (after_admitting s S) admitted)
+      on (after_shipping s S) (Reserves s.reserved) (λ w e. absurd (cc))
+      (ships_keep AllTaken (λ T to n b was. on T (Puts to n b) (λ w e. absurd (cc)) was) s.shipped (after_sending s S)
+      (sents s.sent (after_admitting s S) admitted))
 
   -- a Grant brings what a Fetch that was taken asks for
   pub granted : (tree : Tree) (S : List Doing) → AllTaken S → (h : HostId) (n : ℕ) (g : GrantOf) → GrantsSo v tree S h n g

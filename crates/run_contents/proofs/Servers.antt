@@ -16,9 +16,10 @@ use Rattle.script_lines.specs.declared.script.Script.{Script}
 use Rattle.token_types.specs.Conflicts.{need_of}
 use Rattle.token_types.specs.declared.token.Token.{Token}
 use Rattle.tree_laws.specs.Parts.{Part}
+use Rattle.run_rules.specs.Doings.{after_shipping}
 use Rattle.run_rules.specs.Doings.{Doing, SentTo, TookNow, admitting, after_admitting, after_cause, after_deciding}
 use Rattle.run_rules.specs.Doings.{after_sending, after_step, deciding, doings_of, epoch, sending}
-use Rattle.run_rules.specs.Doings.Doing.{Gets}
+use Rattle.run_rules.specs.Doings.Doing.{Gets, Puts}
 use Rattle.run_rules.specs.Doings.Doing.{Admits, BeginsEpoch, Flushes, MakesWant, Moves, Reserves, Sent, Took}
 use Rattle.run_rules.specs.Doings.Doing.{WritesDown}
 use Rattle.run_rules.specs.Messages.{Said}
@@ -36,6 +37,7 @@ use Rattle.run_rules.specs.declared.step.Cause.{Cause}
 use Rattle.run_rules.specs.declared.step.Cause.TheVariants.{Evict, Flushed, Freight, Lapse}
 use Rattle.run_rules.specs.declared.step.Cause.TheVariants.{Line, Message as Came, Restart}
 use Rattle.run_rules.specs.declared.step.Cause.TheVariants.{End}
+use Rattle.run_tokens.proofs.Ships.{ships_keep}
 use Rattle.run_rules.specs.declared.step.Step.{Step}
 
 -- a Fetch that asks for what the Grant brings was taken
@@ -125,11 +127,12 @@ module _ (firsts : ServerId → ℕ) where
   node (Server k) past s asked blind old v =
       if_server Sensible k v (after_step s (doings_of (firsts v) v past)) (doings_of (firsts v) v past)
       (λ e. subst (λ w. Sensible (after_step s (doings_of (firsts w) w past))) e
-      (other (after_sending s (doings_of (firsts k) k past)) (Reserves s.reserved) (λ h e n b q. cc)
-      (sents s.sent (after_admitting s (doings_of (firsts k) k past)) asked blind
+      (other (after_shipping s (doings_of (firsts k) k past)) (Reserves s.reserved) (λ h e n b q. cc)
+      (ships_keep Sensible (λ T to n b was. other T (Puts to n b) (λ h e n b q. cc) was) s.shipped
+      (after_sending s (doings_of (firsts k) k past)) (sents s.sent (after_admitting s (doings_of (firsts k) k past)) asked blind
       (admits s.admitted (after_deciding s (doings_of (firsts k) k past))
       (writes s.applied (after_cause s.cause (doings_of (firsts k) k past))
-      (causes s.cause (doings_of (firsts k) k past) (old k))))))) (old v)
+      (causes s.cause (doings_of (firsts k) k past) (old k)))))))) (old v)
 
   pub sensible : (past : List Step) → GrantsBringNeeds firsts past → DonesShowNothing firsts past → (v : ServerId)
       → Sensible (doings_of (firsts v) v past)

@@ -13,9 +13,10 @@ use Rattle.message_types.specs.declared.message.Message.{Message}
 use Rattle.message_types.specs.declared.telling.Bring.{Bring}
 use Rattle.script_lines.specs.declared.script.Script.{Script}
 use Rattle.token_types.specs.declared.token.Token.{Token}
+use Rattle.run_rules.specs.Doings.{after_shipping}
 use Rattle.run_rules.specs.Doings.{Doing, Granted, IsNewlyGranted, admitting, after_admitting, after_cause}
 use Rattle.run_rules.specs.Doings.{after_deciding, after_sending, after_step, deciding, doings_of, epoch, sending}
-use Rattle.run_rules.specs.Doings.Doing.{Gets}
+use Rattle.run_rules.specs.Doings.Doing.{Gets, Puts}
 use Rattle.run_rules.specs.Doings.Doing.{Admits, BeginsEpoch, Flushes, MakesWant, Moves, Reserves, Sent, Took}
 use Rattle.run_rules.specs.Doings.Doing.{WritesDown}
 use Rattle.run_rules.specs.Messages.{Said}
@@ -35,6 +36,7 @@ use Rattle.run_rules.specs.declared.step.Cause.{Cause}
 use Rattle.run_rules.specs.declared.step.Cause.TheVariants.{Evict, Flushed, Freight, Lapse}
 use Rattle.run_rules.specs.declared.step.Cause.TheVariants.{Line, Message as Came, Restart}
 use Rattle.run_rules.specs.declared.step.Cause.TheVariants.{End}
+use Rattle.run_tokens.proofs.Ships.{ships_keep}
 use Rattle.run_rules.specs.declared.step.Step.{Step}
 
 one_of : {A : Type 0} (P : A → Type 0) (xs : List A) (x : A) → EachSound P xs → In x xs → P x
@@ -174,11 +176,12 @@ module _ (script : Script) (v : ServerId) where
         let S = doings_of (firsts v) v past in
         let said : AllSaid (after_cause s.cause S) = λ h e n b i.
         cause_heard h e n b script start firsts past run v s m.1 (heard h e n b script start firsts past run v) i in
-        plain (after_sending s S) (Reserves s.reserved) (λ h e n b q. cc) (λ h ts q. cc)
-        (sents s.sent (after_admitting s S) sound
+        plain (after_shipping s S) (Reserves s.reserved) (λ h e n b q. cc) (λ h ts q. cc)
+        (ships_keep AllGood (λ T to n b was. plain T (Puts to n b) (λ h e n b q. cc) (λ h ts q. cc) was) s.shipped
+        (after_sending s S) (sents s.sent (after_admitting s S) sound
         (admits s.admitted (after_deciding s S) m.0.tokens.admits
         (said_written s.applied (after_cause s.cause S) said)
-        (writes s.applied (after_cause s.cause S) (causes s.cause S old))))
+        (writes s.applied (after_cause s.cause S) (causes s.cause S old)))))
 
 module _ (script : Script) (start : Tree) (firsts : ServerId → ℕ) where
   at_node : (n : Node) (past : List Step) (s : Step) → StepsMeet script start firsts past

@@ -115,7 +115,8 @@ abbrev pub deeds_of : ServerId → Tree → List Doing → Step → List Deed
 deeds_of v tree past s =
     with_doing (does_first s.cause tree (by_cause s.applied)) (doings_cause s.cause past [])
     ++ (decided v s.cause (filesets_through s.cause (by_cause s.applied) tree) (decisions s.applied)
-    ++ with_doing does_nothing (admitting s.admitted ++ (sending s.sent ++ (Reserves s.reserved ∷ []))))
+    ++ with_doing does_nothing (admitting s.admitted ++ (sending s.sent
+    ++ (shipping s.shipped ++ (Reserves s.reserved ∷ [])))))
 
 abbrev pub deeds_at : Tree → (ServerId → ℕ) → Node → List Step → Step → List Deed
 deeds_at start firsts (Host host) past s = []

@@ -489,7 +489,7 @@ step_meets script start server steps past s applies_ tells e =
           writes = may_all server (deciding s.applied) (after_cause s.cause past) t.1.0;
           admits = may_all server (admitting s.admitted) (after_deciding s past) t.1.1.0;
           sends = may_all server (sending s.sent) (after_admitting s past) t.1.1.1.0;
-          reserves = may_act server (after_sending s past) (Reserves s.reserved) (none_right s.reserved t.1.1.1.1.0);
+          reserves = may_act server (after_shipping s past) (Reserves s.reserved) (none_right s.reserved t.1.1.1.1.0);
         };
         no_host = record {
           causes = (
@@ -528,7 +528,7 @@ step_meets script start server steps past s applies_ tells e =
       };
     }
   where
-    none_right : (ts : List Token) → is_none ts ≡ true → act_right server (after_sending s past) (Reserves ts) ≡ true
+    none_right : (ts : List Token) → is_none ts ≡ true → act_right server (after_shipping s past) (Reserves ts) ≡ true
     none_right ts e = e
 
     line_at : (lines : List Line) (n : ℕ) → lines_right lines steps (LineOf n) ≡ true

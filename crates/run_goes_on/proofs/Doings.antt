@@ -14,10 +14,11 @@ use Rattle.message_types.specs.declared.message.Body.TheVariants.{Done, Grant, H
 use Rattle.message_types.specs.declared.message.Message.{Message}
 use Rattle.message_types.specs.declared.telling.Bring.{Bring}
 use Rattle.message_types.specs.declared.telling.Done.{Done as DoneOf}
+use Rattle.run_rules.specs.Doings.{after_shipping}
 use Rattle.run_rules.specs.Doings.{Doing, HasReclaimed, InEpoch, IsNewEpoch, Issued, Issues, Listed, ListedNow}
 use Rattle.run_rules.specs.Doings.{SentTo, StayStamp, TookNow, admitting, after_admitting, after_cause, after_deciding}
 use Rattle.run_rules.specs.Doings.{after_sending, after_step, deciding, doings_of, epoch, sending}
-use Rattle.run_rules.specs.Doings.Doing.{Gets}
+use Rattle.run_rules.specs.Doings.Doing.{Gets, Puts}
 use Rattle.run_rules.specs.Doings.Doing.{Admits, BeginsEpoch, Flushes, MakesWant, Moves, Reserves, Sent, Took}
 use Rattle.run_rules.specs.Doings.Doing.{WritesDown}
 use Rattle.run_rules.specs.Messages.{Said}
@@ -35,6 +36,7 @@ use Rattle.run_rules.specs.declared.step.Cause.TheVariants.{Line, Message as Cam
 use Rattle.run_rules.specs.declared.step.Step.{Step}
 use Rattle.run_tokens.specs.Unmoved.{StaysPut}
 use Rattle.run_tokens.proofs.Unmoved.{put_on}
+use Rattle.run_tokens.proofs.Ships.{ships_keep}
 use Rattle.run_tokens.proofs.Words.{acts_after, if_host, if_server, own_after}
 
 -- # Epochs
@@ -49,6 +51,8 @@ epoch_on (Admits h ts) S none = refl
 epoch_on (Sent h e n b) S none = refl
 epoch_on (Reserves ts) S none = refl
 epoch_on (Moves move) S none = refl
+epoch_on (Gets from n b) S none = refl
+epoch_on (Puts to n b) S none = refl
 
 epoch_deciding : (xs : List Applied) (S : List Doing) → epoch (appended (deciding xs) S) ≡ epoch S
 epoch_deciding [] S = refl
@@ -259,10 +263,11 @@ module _ (v : ServerId) (h : HostId) where
 
   knows_step : (s : Step) (S : List Doing) → ServerStep v S s → 0 < epoch S → Knows S → Knows (after_step s S)
   knows_step s S may above old =
-      on (Reserves s.reserved) (after_sending s S) (λ k e n b q. absurd (cc)) (λ k ts q. absurd (cc))
-      (sends_all s.sent (after_admitting s S) may.sends up
+      on (Reserves s.reserved) (after_shipping s S) (λ k e n b q. absurd (cc)) (λ k ts q. absurd (cc))
+      (ships_keep Knows (λ T to n b was. on (Puts to n b) T (λ k e n b q. absurd (cc)) (λ k ts q. absurd (cc)) was) s.shipped
+      (after_sending s S) (sends_all s.sent (after_admitting s S) may.sends up
       (admits_all s.admitted (after_deciding s S) may.admits
-      (decides s.applied (after_cause s.cause S) (causes s.cause S old))))
+      (decides s.applied (after_cause s.cause S) (causes s.cause S old)))))
     where
       up : 0 < epoch (after_admitting s S)
       up =

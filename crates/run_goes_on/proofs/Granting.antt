@@ -9,10 +9,11 @@ use Rattle.message_types.specs.declared.message.Body.TheVariants.{Done, Grant, R
 use Rattle.message_types.specs.declared.message.Message.{Message}
 use Rattle.message_types.specs.declared.telling.Bring.{Bring}
 use Rattle.message_types.specs.declared.tokens.Revoke.{Revoke as RevokeOf}
+use Rattle.run_rules.specs.Doings.{after_shipping}
 use Rattle.run_rules.specs.Doings.{Doing, Enlists, Granted, HasReclaimed, IsNewlyGranted, Issued, Issues, Pinned}
 use Rattle.run_rules.specs.Doings.{StayStamp, admitting, after_admitting, after_cause, after_deciding, after_sending}
 use Rattle.run_rules.specs.Doings.{after_step, deciding, epoch, sending}
-use Rattle.run_rules.specs.Doings.Doing.{Gets}
+use Rattle.run_rules.specs.Doings.Doing.{Gets, Puts}
 use Rattle.run_rules.specs.Doings.Doing.{Admits, BeginsEpoch, Flushes, MakesWant, Moves, Reserves, Sent, Took}
 use Rattle.run_rules.specs.Doings.Doing.{WritesDown}
 use Rattle.run_rules.specs.Past.{EachInTurn, In, appended}
@@ -26,6 +27,7 @@ use Rattle.run_rules.specs.declared.step.Cause.TheVariants.{End, Evict, Flushed,
 use Rattle.run_rules.specs.declared.step.Cause.TheVariants.{Line, Message as Came, Restart}
 use Rattle.run_rules.specs.declared.step.Step.{Step}
 use Rattle.run_goes_on.proofs.Grown.{in_admitting, in_deciding}
+use Rattle.run_tokens.proofs.Ships.{ships_back}
 use Rattle.run_goes_on.proofs.Positions.{once_on}
 
 abbrev Reclaims : HostId → List Doing → Doing → Type 0
@@ -109,7 +111,9 @@ module _ (v : ServerId) (t : Token) (x : StayStamp) where
       (keep_sends s.sent (after_admitting s S) T may.sends
       (in_admitting (Reclaims t.host) s.admitted (after_deciding s S) decided)
       (once_on (λ before a. Issues a t x) (admitting s.admitted) (after_deciding s S) issued)
-      (keep_plain (after_sending s S) T (Reserves s.reserved) ((λ h e n b q. cc), (λ h ts q. cc)) k)))
+      (ships_back (λ U. Keeps U T) (λ U to n b was. keep_plain U T (Puts to n b) ((λ h e n b q. cc), (λ h ts q. cc)) was)
+      s.shipped (after_sending s S)
+      (keep_plain (after_shipping s S) T (Reserves s.reserved) ((λ h e n b q. cc), (λ h ts q. cc)) k))))
     where
       decided : HasReclaimed (after_deciding s S) t.host
       decided = in_deciding (Reclaims t.host) s.applied (after_cause s.cause S) r

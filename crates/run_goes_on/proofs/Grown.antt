@@ -8,11 +8,12 @@ use Rattle.token_types.specs.declared.token.Token.{Token}
 use Rattle.message_types.specs.declared.message.Body.{Body}
 use Rattle.message_types.specs.declared.message.Body.TheVariants.{Hello}
 use Rattle.message_types.specs.declared.message.Message.{Message}
+use Rattle.run_rules.specs.Doings.{after_shipping}
 use Rattle.run_rules.specs.Doings.{Doing, Enlists, HasReclaimed, Hears, InEpoch, Listed, ListedNow, SentTo}
 use Rattle.run_rules.specs.Doings.{admitting, after_admitting}
 use Rattle.run_rules.specs.Doings.{after_cause, after_deciding, after_sending, after_step, deciding, doings_of, epoch}
 use Rattle.run_rules.specs.Doings.{sending}
-use Rattle.run_rules.specs.Doings.Doing.{Gets}
+use Rattle.run_rules.specs.Doings.Doing.{Gets, Puts}
 use Rattle.run_rules.specs.Doings.Doing.{Admits, BeginsEpoch, Flushes, MakesWant, Moves, Reserves, Sent, Took}
 use Rattle.run_rules.specs.Doings.Doing.{WritesDown}
 use Rattle.run_rules.specs.Past.{EachInTurn, In, Once, appended}
@@ -50,9 +51,9 @@ module _ (Q : List Doing → Type 0) (one : (S : List Doing) (a : Doing) → Q S
 
   pub caused_on : (s : Step) (S : List Doing) → Q (after_cause s.cause S) → Q (after_step s S)
   caused_on s S q =
-      one (after_sending s S) (Reserves s.reserved)
-      (all_on (sending s.sent) (after_admitting s S)
-      (all_on (admitting s.admitted) (after_deciding s S) (all_on (deciding s.applied) (after_cause s.cause S) q)))
+      one (after_shipping s S) (Reserves s.reserved)
+      (all_on (shipping s.shipped) (after_sending s S) (all_on (sending s.sent) (after_admitting s S)
+      (all_on (admitting s.admitted) (after_deciding s S) (all_on (deciding s.applied) (after_cause s.cause S) q))))
 
   pub each_on : (s : Step) (S : List Doing) → Q S → Q (after_step s S)
   each_on s S q = caused_on s S (cause_each s.cause S q)
@@ -235,7 +236,7 @@ module _ (P : List Doing → Doing → Type 0) (takes : IsTaking P) where
 
   pub taken_step : (s : Step) (S : List Doing) → InEpoch P (after_step s S) → InEpoch P (after_cause s.cause S)
   taken_step s S (inl x) =
-      let k = takes (after_sending s S) (Reserves s.reserved) x in
+      let k = takes (after_shipping s S) (Reserves s.reserved) x in
       absurd (let z : Reserves s.reserved ≡ Took k.0 k.1 k.2 k.3 = k.4 in cc)
   taken_step s S (inr x) = taken_admitting s.admitted s S (back_sending P no_send s.sent (after_admitting s S) x.0)
 
@@ -275,7 +276,7 @@ module _ (P : List Doing → Doing → Type 0) (takes : IsTaking P) where
 
   pub once_step : (s : Step) (S : List Doing) → Once P (after_step s S) → Once P (after_cause s.cause S)
   once_step s S (inl x) =
-      let k = takes (after_sending s S) (Reserves s.reserved) x in
+      let k = takes (after_shipping s S) (Reserves s.reserved) x in
       absurd (let z : Reserves s.reserved ≡ Took k.0 k.1 k.2 k.3 = k.4 in cc)
   once_step s S (inr x) =
       once_deciding s.applied (after_cause s.cause S)
@@ -299,6 +300,11 @@ module _ (h : HostId) where
   written_no S w (inr x) =
       let k = enlists_hearing S (WritesDown w) h x in let z : WritesDown w ≡ Took h k.0 k.1 Hello = k.2 in cc
 
+  moved_no : (S : List Doing) (move : Move) → Reclaims S (Moves move) → ⊥
+  moved_no S move (inl (ts, q)) = let z : Moves move ≡ Admits h ts = q in cc
+  moved_no S move (inr x) =
+      let k = enlists_hearing S (Moves move) h x in let z : Moves move ≡ Took h k.0 k.1 Hello = k.2 in cc
+
   sent_no : (S : List Doing) (j : HostId) (e n : ℕ) (b : Body) → Reclaims S (Sent j e n b) → ⊥
   sent_no S j e n b (inl (ts, q)) = let z : Sent j e n b ≡ Admits h ts = q in cc
   sent_no S j e n b (inr x) =
@@ -320,12 +326,12 @@ module _ (h : HostId) where
       → HasReclaimed (after_cause s.cause S) h ⊎ ((c : Admission) × In c s.admitted × (c.host ≡ h))
   reclaims_step s S (inl (inl (ts, q))) = absurd (let z : Reserves s.reserved ≡ Admits h ts = q in cc)
   reclaims_step s S (inl (inr x)) =
-      let k = enlists_hearing (after_sending s S) (Reserves s.reserved) h x in
+      let k = enlists_hearing (after_shipping s S) (Reserves s.reserved) h x in
       absurd (let z : Reserves s.reserved ≡ Took h k.0 k.1 Hello = k.2 in cc)
   reclaims_step s S (inr r) =
       elim (reclaims_admitting s.admitted (after_deciding s S)
       (back_sending Reclaims sent_no s.sent (after_admitting s S) r.0)) [
-        | inl d ↦ inl (back_deciding Reclaims wanted_no written_no s.applied (after_cause s.cause S) d)
+        | inl d ↦ inl (back_deciding Reclaims wanted_no written_no moved_no s.applied (after_cause s.cause S) d)
         | inr k ↦ inr k
       ]
 

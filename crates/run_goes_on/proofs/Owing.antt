@@ -24,7 +24,8 @@ use Rattle.run_rules.specs.Doings.{Doing, Enlists, Granted, HasReclaimed, Here, 
 use Rattle.run_rules.specs.Doings.{SentNow, StayStamp, after_admitting, after_cause, after_deciding}
 use Rattle.run_rules.specs.Doings.{after_step, doings_of, epoch, sending}
 use Rattle.run_rules.specs.Doings.Doing.{Gets}
-use Rattle.run_rules.specs.Doings.Doing.{Admits, BeginsEpoch, Flushes, MakesWant, Reserves, Sent, Took, WritesDown}
+use Rattle.run_rules.specs.Doings.Doing.{Admits, BeginsEpoch, Flushes, MakesWant, Moves, Reserves, Sent, Took}
+use Rattle.run_rules.specs.Doings.Doing.{WritesDown}
 use Rattle.run_rules.specs.HostDue.{AnswersOf, HasDirty, HostDue, RevokeDue}
 use Rattle.run_rules.specs.HostMay.{HostMay, IsExact}
 use Rattle.run_rules.specs.Kept.{filesets_kept}
@@ -89,7 +90,8 @@ module _ (t : Token) where
     | inr k ↦ inr (k.0, (k.1, k.2, k.3, k.4), k.5)
     | inl k ↦ inl (back_deciding Asks
         (λ T w a. (let z : MakesWant w ≡ Sent t.host a.0 a.1 (Revoke a.2) = a.3 in cc))
-        (λ T w a. (let z : WritesDown w ≡ Sent t.host a.0 a.1 (Revoke a.2) = a.3 in cc)) s.applied
+        (λ T w a. (let z : WritesDown w ≡ Sent t.host a.0 a.1 (Revoke a.2) = a.3 in cc))
+        (λ T m a. (let z : Moves m ≡ Sent t.host a.0 a.1 (Revoke a.2) = a.3 in cc)) s.applied
         (after_cause s.cause S)
         (back_admitting Asks (λ T h ts a. (let z : Admits h ts ≡ Sent t.host a.0 a.1
         (Revoke a.2) = a.3 in cc)) s.admitted

@@ -19,11 +19,12 @@ use Rattle.message_types.specs.declared.message.Direction.TheVariants.{ToHost, T
 use Rattle.message_types.specs.declared.message.Message.{Message}
 use Rattle.message_types.specs.declared.telling.Done.{Done as DoneOf}
 use Rattle.message_types.specs.declared.telling.DoneIs.TheVariants.{Reply as HasReply}
+use Rattle.run_rules.specs.Doings.{after_shipping}
 use Rattle.run_rules.specs.Doings.{Doing, GoesAway, HasGoneAway, HasReclaimed, IsLive, IsNewEpoch, Listed, SentNow}
 use Rattle.run_rules.specs.Doings.{SentTo, TakenNow, WasWritten, admitting, after_admitting, after_cause}
 use Rattle.run_rules.specs.Doings.{after_deciding}
 use Rattle.run_rules.specs.Doings.{after_sending, after_step, deciding, doings_of, epoch, sending}
-use Rattle.run_rules.specs.Doings.Doing.{Gets}
+use Rattle.run_rules.specs.Doings.Doing.{Gets, Puts}
 use Rattle.run_rules.specs.Doings.Doing.{Admits, Flushes, MakesWant, Reserves, Sent, Took, WritesDown}
 use Rattle.run_rules.specs.HostAsks.{IsChangeNumber}
 use Rattle.run_rules.specs.HostDue.{HostDue, IsUnanswered}
@@ -75,6 +76,7 @@ use Rattle.run_goes_on.proofs.Telling.{decide, learns_by, server_due, server_may
 use Rattle.run_goes_on.specs.Ended.{IsRequest, IsSame, RequestsStandAsWants}
 use Rattle.run_tokens.proofs.TokenRun.{works_none}
 use Rattle.run_tokens.specs.Unmoved.{MovesNone}
+use Rattle.run_tokens.proofs.Ships.{ships_keep}
 use Rattle.run_goes_on.specs.Rest.{AllIsOver, IsTakenIn, LapsesIn, NoneIsHeld}
 
 -- # Words
@@ -629,12 +631,18 @@ module _ (script : Script) (start : Tree) (firsts : ServerId → ℕ) (real : (v
       -- what is so once the step has decided is so at its end
       from_decided : HasOne (after_deciding t S) → HasOne (after_step t S)
       from_decided has =
-          keep (after_sending t S) (Reserves t.reserved)
-          (keep_quiet (after_sending t S) (Reserves t.reserved) (λ j d k c z. cc) (λ y z. cc) (λ y z. cc)
+          keep (after_shipping t S) (Reserves t.reserved)
+          (keep_quiet (after_shipping t S) (Reserves t.reserved) (λ j d k c z. cc) (λ y z. cc) (λ y z. cc)
           (λ gone. none_goes gone) (λ new. (let z = new.1 in cc)))
-          (keep_sends t.sent (after_admitting t S) (λ w i. i) (keep_admits t.admitted (after_deciding t S) has))
+          (ships_keep HasOne (λ T to n b was. keep T (Puts to n b)
+          (keep_quiet T (Puts to n b) (λ j d k c z. cc) (λ y z. cc) (λ y z. cc) (λ gone. none_goes_by T to n b gone)
+          (λ new. (let z = new.1 in cc))) was) t.shipped (after_sending t S) (keep_sends t.sent (after_admitting t S) (λ w i. i) (keep_admits t.admitted (after_deciding t S) has)))
         where
-          none_goes : GoesAway (after_sending t S) (Reserves t.reserved) host → ⊥
+          none_goes_by : (T : List Doing) (to : ServerId) (n : ℕ) (b : Body) → GoesAway T (Puts to n b) host → ⊥
+          none_goes_by T to n b (inl z) = let y = z.2 in cc
+          none_goes_by T to n b (inr z) = let y = z.0.1 in cc
+
+          none_goes : GoesAway (after_shipping t S) (Reserves t.reserved) host → ⊥
           none_goes (inl z) = let y = z.2 in cc
           none_goes (inr z) = let y = z.0.1 in cc
 

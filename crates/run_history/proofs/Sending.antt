@@ -16,8 +16,10 @@ use Rattle.message_types.specs.declared.telling.Done.{Done as DoneOf}
 use Rattle.message_types.specs.declared.telling.DoneIs.{DoneIs}
 use Rattle.message_types.specs.declared.telling.DoneIs.TheVariants.{Known}
 use Rattle.script_lines.specs.declared.script.Script.{Script}
+use Rattle.run_rules.specs.Doings.{after_shipping}
 use Rattle.run_rules.specs.Doings.{Doing, SentTo, admitting, after_admitting, after_cause, after_deciding}
 use Rattle.run_rules.specs.Doings.{after_sending, after_step, deciding, doings_of, epoch, sending}
+use Rattle.run_rules.specs.Doings.Doing.{Puts}
 use Rattle.run_rules.specs.Doings.Doing.{Admits, BeginsEpoch, Flushes, MakesWant, Moves, Reserves, Sent, Took}
 use Rattle.run_rules.specs.Doings.Doing.{WritesDown}
 use Rattle.run_rules.specs.Kept.{filesets_after, filesets_kept, filesets_through}
@@ -42,6 +44,7 @@ use Rattle.run_rules.specs.declared.step.Cause.TheVariants.{Flushed, Message as 
 use Rattle.run_tokens.specs.Unmoved.{MovesOne, StaysPut, is_move}
 use Rattle.run_tokens.proofs.Unmoved.{cause_put, put_on}
 use Rattle.run_tokens.proofs.TokenRun.{none_moves, stays_put}
+use Rattle.run_tokens.proofs.Ships.{ships_keep}
 use Rattle.run_rules.specs.declared.step.Step.{Step}
 
 -- no fileset has moved, what waits was taken, and what was taken its host said
@@ -192,10 +195,11 @@ module _ (script : Script) (start : Tree) (firsts : ServerId → ℕ) (past : Li
 
     pub after_sends : AllSent Q S → AllSent Q (after_step s S)
     after_sends old =
-        other Q (after_sending s S) (Reserves s.reserved) (λ h e n b q. absurd (cc))
-        (sends s.sent (after_admitting s S) (λ x i. i) m.0.works.sends admitted
+        other Q (after_shipping s S) (Reserves s.reserved) (λ h e n b q. absurd (cc))
+        (ships_keep (AllSent Q) (λ T to k c was. other Q T (Puts to k c) (λ h e n b q. absurd (cc)) was) s.shipped
+        (after_sending s S) (sends s.sent (after_admitting s S) (λ x i. i) m.0.works.sends admitted
         (admits_sent Q s.admitted (after_deciding s S)
-        (writes_sent Q s.applied (after_cause s.cause S) (causes_sent Q s.cause S old))))
+        (writes_sent Q s.applied (after_cause s.cause S) (causes_sent Q s.cause S old)))))
 
 -- a Done that tells a fileset's number is of the server at which that was made
 abbrev pub KnownAtHome : ServerId → HostId → ℕ → ℕ → Body → Type 0

@@ -13,9 +13,10 @@ use Rattle.message_types.specs.declared.message.Body.TheVariants.{Change, Done}
 use Rattle.message_types.specs.declared.message.Message.{Message}
 use Rattle.message_types.specs.declared.telling.Done.{Done as DoneOf}
 use Rattle.script_lines.specs.declared.script.Script.{Script}
+use Rattle.run_rules.specs.Doings.{after_shipping}
 use Rattle.run_rules.specs.Doings.{Doing, SentTo, admitting, after_admitting, after_cause, after_deciding}
 use Rattle.run_rules.specs.Doings.{after_sending, after_step, deciding, doings_of, epoch, sending}
-use Rattle.run_rules.specs.Doings.Doing.{Gets}
+use Rattle.run_rules.specs.Doings.Doing.{Gets, Puts}
 use Rattle.run_rules.specs.Doings.Doing.{Admits, BeginsEpoch, Flushes, MakesWant, Reserves, Sent, Took, WritesDown}
 use Rattle.run_rules.specs.Kept.{filesets_after, filesets_kept, filesets_through}
 use Rattle.run_rules.specs.Messages.{Changing, ComesIn, DoneComes, Said, Stay, epoch_at, epoch_raised, epoch_raised_by}
@@ -44,6 +45,7 @@ use Rattle.run_rules.specs.declared.step.Cause.TheVariants.{End, Evict, Flushed,
 use Rattle.run_rules.specs.declared.step.Cause.TheVariants.{Restart}
 use Rattle.run_rules.specs.declared.step.Step.{Step}
 use Rattle.run_tokens.proofs.TokenRun.{works_none}
+use Rattle.run_tokens.proofs.Ships.{ships_keep}
 use Rattle.run_history.proofs.State.{whole}
 
 -- no Done of a Change was said in this epoch
@@ -144,12 +146,13 @@ decides v before s (IsMoved move ∷ xs) tree S may old = elim may.0 [ ]
 step_fresh : (script : Script) (start : Tree) (v : ServerId) (steps : List Step) (S : List Doing) (s : Step)
     → ServerMay script start v steps S s → AllFresh S → AllFresh (after_step s S)
 step_fresh script start v steps S s m old =
-    on (after_sending s S) (Reserves s.reserved) (λ w e. cc) (λ h e n b q. cc) refl
-    (sents s.sent (after_admitting s S) (admits s.admitted (after_deciding s S)
+    on (after_shipping s S) (Reserves s.reserved) (λ w e. cc) (λ h e n b q. cc) refl
+    (ships_keep AllFresh (λ T to n b was. on T (Puts to n b) (λ w e. cc) (λ h e n b q. cc) refl was) s.shipped
+    (after_sending s S) (sents s.sent (after_admitting s S) (admits s.admitted (after_deciding s S)
     (subst AllFresh (sym (same_decisions s.applied (after_cause s.cause S)
     (works_none v (filesets_kept start v steps) S s m.works.applies)))
     (decides v S s (decisions s.applied) (filesets_through s.cause (by_cause s.applied) (filesets_kept start v steps))
-    (after_cause s.cause S) m.works.decides (causes s.cause S old)))))
+    (after_cause s.cause S) m.works.decides (causes s.cause S old))))))
 
 -- a list grows
 later : {A : Type 0} (P : List A → A → Type 0) (xs ys : List A) → Once P ys → Once P (appended xs ys)
@@ -170,9 +173,9 @@ cause_sent End S h e n b o = o
 pub sent_later : (s : Step) (S : List Doing) (h : HostId) (e n : ℕ) (b : Body) → SentTo S h e n b
     → SentTo (after_step s S) h e n b
 sent_later s S h e n b o =
-    inr (later _ (sending s.sent) (after_admitting s S)
+    inr (later _ (shipping s.shipped) (after_sending s S) (later _ (sending s.sent) (after_admitting s S)
     (later _ (admitting s.admitted) (after_deciding s S)
-    (later _ (deciding s.applied) (after_cause s.cause S) (cause_sent s.cause S h e n b o))))
+    (later _ (deciding s.applied) (after_cause s.cause S) (cause_sent s.cause S h e n b o)))))
 
 -- there is no server 0
 none_zero : (xs : List (ℕ × ℕ)) (v : ServerId)

@@ -1,7 +1,8 @@
 -- The doings of a server's step, one after the other: each meets the rules of tokens, and they are those of the step.
+use Rattle.run_rules.specs.Doings.{after_shipping}
 use Rattle.run_rules.specs.Doings.{Doing, Granted, IsNewEpoch, admitting, after_admitting, after_cause, after_deciding}
 use Rattle.run_rules.specs.Doings.{after_sending, after_step, deciding, epoch, sending}
-use Rattle.run_rules.specs.Doings.Doing.{Gets}
+use Rattle.run_rules.specs.Doings.Doing.{Gets, Puts}
 use Rattle.run_rules.specs.Doings.Doing.{Admits, BeginsEpoch, Flushes, MakesWant, Moves, Reserves, Sent, Took}
 use Rattle.run_rules.specs.Doings.Doing.{WritesDown}
 use Rattle.run_rules.specs.Messages.{Said}
@@ -82,6 +83,40 @@ begin_may v S n = record {
   reserves = λ ts t u p. absurd (cc);
 }
 
+puts_may : (v : ServerId) (S : List Doing) (to : ServerId) (n : ℕ) (b : Body) → ServerTokens v S (Puts to n b)
+puts_may v S to n b = record {
+  epochs = λ k d m c p. absurd (cc);
+  grants = λ k d m w p. absurd (cc);
+  dones = λ k d m w p. absurd (cc);
+  revokes = λ k d m r i p. absurd (cc);
+  revokes_here = λ k d m r p. absurd (cc);
+  stamps = λ k d m x r p. absurd (cc);
+  gones = λ k d m g p. absurd (cc);
+  reclaimed = λ k d m r g p. absurd (cc);
+  left_out = λ k d m r i p. absurd (cc);
+  admits = λ k ts p. absurd (cc);
+  writes = λ w p. absurd (cc);
+  writes_once = λ w p. absurd (cc);
+  reserves = λ ts t u p. absurd (cc);
+}
+
+gets_may : (v : ServerId) (S : List Doing) (from : ServerId) (n : ℕ) (b : Body) → ServerTokens v S (Gets from n b)
+gets_may v S from n b = record {
+  epochs = λ k d m c p. absurd (cc);
+  grants = λ k d m w p. absurd (cc);
+  dones = λ k d m w p. absurd (cc);
+  revokes = λ k d m r i p. absurd (cc);
+  revokes_here = λ k d m r p. absurd (cc);
+  stamps = λ k d m x r p. absurd (cc);
+  gones = λ k d m g p. absurd (cc);
+  reclaimed = λ k d m r g p. absurd (cc);
+  left_out = λ k d m r i p. absurd (cc);
+  admits = λ k ts p. absurd (cc);
+  writes = λ w p. absurd (cc);
+  writes_once = λ w p. absurd (cc);
+  reserves = λ ts t u p. absurd (cc);
+}
+
 abbrev pub IsHeard : (HostId → List Step) → ServerId → Doing → Type 0
 IsHeard own_of v a = (h : HostId) (e n : ℕ) (b : Body) → a ≡ Took h e n b → Said (own_of h) v e n b
 
@@ -114,6 +149,16 @@ module _ (own_of : HostId → List Step) (alone : (h : HostId) → Alone (own_of
     act S (Sent m.host m.epoch m.moves m.body) may.0 (λ p. let q = p.1 in cc) (λ p. let q = p.1 in cc) refl (λ h e n b p. absurd (cc)),
     sents ms (Sent m.host m.epoch m.moves m.body ∷ S) more may.1 rest,
   )
+
+  ships : (ms : List Message) (S more : List Doing) → EachInTurn (Next own_of v) more (appended (shipping ms) S)
+      → EachInTurn (Next own_of v) (shipping ms ++ more) S
+  ships [] S more rest = rest
+  ships (m ∷ ms) S more rest =
+      let a = Puts (shipped_by_body m.body m.server) m.moves m.body in (
+        act S a (puts_may v S (shipped_by_body m.body m.server) m.moves m.body) (λ p. let q = p.1 in cc)
+            (λ p. let q = p.1 in cc) refl (λ h e n b p. absurd (cc)),
+        ships ms (a ∷ S) more rest,
+      )
 
   admits : (cs : List Admission) (S more : List Doing) → EachInTurn (ServerTokens v) (admitting cs) S
       → EachInTurn (Next own_of v) more (appended (admitting cs) S) → EachInTurn (Next own_of v) (admitting cs ++ more) S
@@ -169,7 +214,7 @@ module _ (own_of : HostId → List Step) (alone : (h : HostId) → Alone (own_of
   causes Lapse S more came rest = rest
   causes Evict S more came rest = rest
   causes (Freight freight) S more came rest =
-      (act S (Gets freight.server freight.moves freight.body) (flush_may v S) (λ p. let q = p.1 in cc) (λ p. let q = p.1 in cc) refl (λ k d n c e. absurd (cc)), rest)
+      (act S (Gets freight.server freight.moves freight.body) (gets_may v S freight.server freight.moves freight.body) (λ p. let q = p.1 in cc) (λ p. let q = p.1 in cc) refl (λ k d n c e. absurd (cc)), rest)
   causes End S more came rest = rest
 
   pub each_next : (s : Step) (S : List Doing) → MovesNone s → ServerStep v S s
@@ -179,10 +224,15 @@ module _ (own_of : HostId → List Step) (alone : (h : HostId) → Alone (own_of
       causes s.cause S _ came
       (writes s.applied (after_cause s.cause S) _ none may.writes
       (admits s.admitted (after_deciding s S) _ may.admits
-      (sents s.sent (after_admitting s S) (Reserves s.reserved ∷ []) may.sends (
-        act (after_sending s S) (Reserves s.reserved) may.reserves (λ p. let q = p.1 in cc) (λ p. let q = p.1 in cc) refl (λ h e n b p. absurd (cc)),
+      (sents s.sent (after_admitting s S) (shipping s.shipped ++ (Reserves s.reserved ∷ [])) may.sends
+      (ships s.shipped (after_sending s S) (Reserves s.reserved ∷ []) (
+        act (after_shipping s S) (Reserves s.reserved) may.reserves (λ p. let q = p.1 in cc) (λ p. let q = p.1 in cc) refl (λ h e n b p. absurd (cc)),
         tt,
-      ))))
+      )))))
+
+after_ships : (ms : List Message) (S more : List Doing) → appended (shipping ms ++ more) S ≡ appended more (appended (shipping ms) S)
+after_ships [] S more = refl
+after_ships (m ∷ ms) S more = after_ships ms (Puts (shipped_by_body m.body m.server) m.moves m.body ∷ S) more
 
 after_sents : (ms : List Message) (S more : List Doing) → appended (sending ms ++ more) S ≡ appended more (appended (sending ms) S)
 after_sents [] S more = refl
@@ -218,4 +268,4 @@ pub after_doings : (s : Step) (S : List Doing) → appended (doings s S) S ≡ a
 after_doings s S =
     after_causes s.cause S _
     ∙ (after_writes s.applied (after_cause s.cause S) _
-    ∙ (after_admits s.admitted (after_deciding s S) _ ∙ after_sents s.sent (after_admitting s S) (Reserves s.reserved ∷ [])))
+    ∙ (after_admits s.admitted (after_deciding s S) _ ∙ (after_sents s.sent (after_admitting s S) _ ∙ after_ships s.shipped (after_sending s S) (Reserves s.reserved ∷ []))))

@@ -1,10 +1,11 @@
 -- Every run keeps the invariant, and the laws follow from it.
 use Rattle.run_tokens.proofs.Words.{acts_after, own_after}
+use Rattle.run_rules.specs.Doings.{after_shipping}
 use Rattle.run_rules.specs.Doings.{Doing, Granted, HasGoneAway, HasReclaimed, Here, IsApplied, IsNewEpoch, Reserved}
 use Rattle.run_rules.specs.Doings.{SentTo, TakesOf, admitting, after_admitting, after_cause, after_deciding}
 use Rattle.run_tokens.specs.Unmoved.{MovesNone, MovesOne, is_move}
 use Rattle.run_rules.specs.Doings.{after_sending, after_step, deciding, doings_of, epoch, sending}
-use Rattle.run_rules.specs.Doings.Doing.{Gets}
+use Rattle.run_rules.specs.Doings.Doing.{Gets, Puts}
 use Rattle.run_rules.specs.Doings.Doing.{Admits, BeginsEpoch, Flushes, MakesWant, Reserves, Sent, Took, WritesDown}
 use Rattle.run_rules.specs.HostTokens.{HostTokens}
 use Rattle.run_rules.specs.Messages.{ComesIn, HasStopped, Said, home}
@@ -42,6 +43,7 @@ use Rattle.run_tokens.proofs.Words.{of_one, if_host, if_server, made_at}
 use Rattle.run_tokens.proofs.Invariant.{Served, Alone, Link}
 use Rattle.run_tokens.proofs.HostStep.{alone_step, host_step}
 use Rattle.run_tokens.proofs.ServerAct.{served_act, link_act}
+use Rattle.run_tokens.proofs.Ships.{ships_keep}
 use Rattle.run_tokens.proofs.ServerBegin.{served_begin, link_begin}
 
 -- the law, part by part
@@ -123,6 +125,40 @@ flush_may v S = record {
   reserves = λ ts t u p. absurd (cc);
 }
 
+puts_may : (v : ServerId) (S : List Doing) (to : ServerId) (n : ℕ) (b : Body) → ServerTokens v S (Puts to n b)
+puts_may v S to n b = record {
+  epochs = λ k d m c p. absurd (cc);
+  grants = λ k d m w p. absurd (cc);
+  dones = λ k d m w p. absurd (cc);
+  revokes = λ k d m r i p. absurd (cc);
+  revokes_here = λ k d m r p. absurd (cc);
+  stamps = λ k d m x r p. absurd (cc);
+  gones = λ k d m g p. absurd (cc);
+  reclaimed = λ k d m r g p. absurd (cc);
+  left_out = λ k d m r i p. absurd (cc);
+  admits = λ k ts p. absurd (cc);
+  writes = λ w p. absurd (cc);
+  writes_once = λ w p. absurd (cc);
+  reserves = λ ts t u p. absurd (cc);
+}
+
+gets_may : (v : ServerId) (S : List Doing) (from : ServerId) (n : ℕ) (b : Body) → ServerTokens v S (Gets from n b)
+gets_may v S from n b = record {
+  epochs = λ k d m c p. absurd (cc);
+  grants = λ k d m w p. absurd (cc);
+  dones = λ k d m w p. absurd (cc);
+  revokes = λ k d m r i p. absurd (cc);
+  revokes_here = λ k d m r p. absurd (cc);
+  stamps = λ k d m x r p. absurd (cc);
+  gones = λ k d m g p. absurd (cc);
+  reclaimed = λ k d m r g p. absurd (cc);
+  left_out = λ k d m r i p. absurd (cc);
+  admits = λ k ts p. absurd (cc);
+  writes = λ w p. absurd (cc);
+  writes_once = λ w p. absurd (cc);
+  reserves = λ ts t u p. absurd (cc);
+}
+
 module _ (own_of : HostId → List Step) (alone : (h : HostId) → Alone (own_of h)) (v : ServerId) where
   act : (S : List Doing) (a : Doing) → AtServer own_of v S → ServerTokens v S a → (IsNewEpoch a → ⊥) → (MovesOne a → ⊥) → epoch (a ∷ S) ≡ epoch S → ((h : HostId) (e n : ℕ) (b : Body) → a ≡ Took h e n b → Said (own_of h) v e n b) → AtServer own_of v (a ∷ S)
   act S a at may quiet still same came =
@@ -162,7 +198,7 @@ module _ (own_of : HostId → List Step) (alone : (h : HostId) → Alone (own_of
   takes (Line line) S at came = at
   takes Lapse S at came = at
   takes Evict S at came = at
-  takes (Freight freight) S at came = act S (Gets freight.server freight.moves freight.body) at (flush_may v S) (λ p. let q = p.1 in cc) (λ p. let q = p.1 in cc) refl (λ k d n c e. absurd (cc))
+  takes (Freight freight) S at came = act S (Gets freight.server freight.moves freight.body) at (gets_may v S freight.server freight.moves freight.body) (λ p. let q = p.1 in cc) (λ p. let q = p.1 in cc) refl (λ k d n c e. absurd (cc))
   takes End S at came = at
 
 pub record Whole (own_of : HostId → List Step) (acts_of : ServerId → List Doing) : Type 0 where
@@ -213,8 +249,14 @@ module _ (firsts : ServerId → ℕ) where
           sends (λ h. steps_of_host h past) kept.alone k s.sent (after_admitting s (doings_of (firsts k) k past))
           (admits (λ h. steps_of_host h past) kept.alone k s.admitted (after_deciding s (doings_of (firsts k) k past)) written may.0.admits) may.0.sends
 
+      shipped : AtServer (λ h. steps_of_host h past) k (after_shipping s (doings_of (firsts k) k past))
+      shipped =
+          ships_keep (AtServer (λ h. steps_of_host h past) k) (λ T to n b was. act (λ h. steps_of_host h past) kept.alone k T
+          (Puts to n b) was (puts_may k T to n b) (λ p. let q = p.1 in cc) (λ p. let q = p.1 in cc) refl
+          (λ h e m c p. absurd (cc))) s.shipped (after_sending s (doings_of (firsts k) k past)) sent
+
       here : AtServer (λ h. steps_of_host h past) k (after_step s (doings_of (firsts k) k past))
-      here = act (λ h. steps_of_host h past) kept.alone k (after_sending s (doings_of (firsts k) k past)) (Reserves s.reserved) sent may.0.reserves (λ p. let q = p.1 in cc) (λ p. let q = p.1 in cc) refl (λ h e n b p. absurd (cc))
+      here = act (λ h. steps_of_host h past) kept.alone k (after_shipping s (doings_of (firsts k) k past)) (Reserves s.reserved) shipped may.0.reserves (λ p. let q = p.1 in cc) (λ p. let q = p.1 in cc) refl (λ h e n b p. absurd (cc))
 
   -- before anything has happened
   alone_first : Alone []

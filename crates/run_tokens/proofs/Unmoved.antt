@@ -5,9 +5,10 @@ use Rattle.std.specs.List.{list_any}
 use Rattle.base_types.specs.declared.ids.FilesetId.{FilesetId}
 use Rattle.base_types.specs.declared.ids.ServerId.{ServerId}
 use Rattle.message_types.specs.declared.message.Message.{Message}
+use Rattle.run_rules.specs.Doings.{after_shipping}
 use Rattle.run_rules.specs.Doings.{Doing, Here, Slot, admitting, after_admitting, after_cause, after_deciding}
 use Rattle.run_rules.specs.Doings.{after_sending, after_step, deciding, epoch, sending, slot_by, slot_of}
-use Rattle.run_rules.specs.Doings.Doing.{Gets}
+use Rattle.run_rules.specs.Doings.Doing.{Gets, Puts}
 use Rattle.run_rules.specs.Doings.Doing.{Admits, BeginsEpoch, Flushes, MakesWant, Moves, Reserves, Sent, Took, WritesDown}
 use Rattle.run_rules.specs.Doings.Slot.{Absent, Writable}
 use Rattle.run_rules.specs.Messages.{Stay, first_stay, home}
@@ -20,6 +21,7 @@ use Rattle.run_rules.specs.declared.step.Cause.{Cause}
 use Rattle.run_rules.specs.declared.step.Cause.TheVariants.{End, Evict, Flushed, Freight, Lapse, Line, Message as Came}
 use Rattle.run_rules.specs.declared.step.Cause.TheVariants.{Restart}
 use Rattle.run_rules.specs.declared.step.Step.{Step}
+use Rattle.run_tokens.proofs.Ships.{ships_keep}
 use Rattle.run_tokens.specs.Unmoved.{MovesNone, MovesOne, StaysPut, Unmoved, is_move}
 
 -- a doing that moves none leaves each slot as it is
@@ -32,6 +34,8 @@ slot_on (WritesDown w) fs s still = refl
 slot_on (Admits h ts) fs s still = refl
 slot_on (Sent h e n b) fs s still = refl
 slot_on (Reserves ts) fs s still = refl
+slot_on (Gets from n b) fs s still = refl
+slot_on (Puts to n b) fs s still = refl
 slot_on (Moves move) fs s still = absurd (still (move, refl))
 
 pub slot_is : (v : ServerId) (past : List Doing) (fs : FilesetId) → StaysPut past → slot_of v past fs ≡ slot_of v [] fs
@@ -116,8 +120,9 @@ admitted_put s S none put =
 
 pub step_put : (s : Step) (S : List Doing) → MovesNone s → StaysPut S → StaysPut (after_step s S)
 step_put s S none put =
-    put_on (Reserves s.reserved) (after_sending s S) (λ p. let q = p.1 in cc)
-    (sending_put s.sent (after_admitting s S) (admitted_put s S none put))
+    put_on (Reserves s.reserved) (after_shipping s S) (λ p. let q = p.1 in cc)
+    (ships_keep StaysPut (λ T to n b was. put_on (Puts to n b) T (λ p. let q = p.1 in cc) was) s.shipped
+    (after_sending s S) (sending_put s.sent (after_admitting s S) (admitted_put s S none put)))
 
 pub first_put : (first : ℕ) → StaysPut (BeginsEpoch first ∷ [])
 first_put first o = elim o [ inl p ↦ (let q = p.1 in cc) | inr n ↦ elim n [ ] ]

@@ -515,7 +515,7 @@ module _ (start : Tree) (server : ServerId) (steps : List Step) (past : List Doi
       writes = held.writes;
       admits = g1.admits;
       sends = tokens_send;
-      reserves = reserves_may server (after_sending s past);
+      reserves = reserves_may server (after_shipping s past);
     };
     no_host = record {
       causes = (h.plain.evict, h.plain.end);
