@@ -35,6 +35,7 @@ use Rattle.run_rules.specs.declared.applied.Written.{Written}
 use Rattle.run_rules.specs.declared.step.Cause.{Cause}
 use Rattle.run_rules.specs.declared.step.Cause.TheVariants.{End, Evict, Flushed, Freight, Lapse, Line, Message as Came}
 use Rattle.run_rules.specs.declared.step.Cause.TheVariants.{Restart}
+use Rattle.run_rules.specs.Doings.Doing.{Puts}
 use Rattle.run_rules.specs.declared.step.Step.{Step}
 
 -- it was written down; this was taken
@@ -66,6 +67,8 @@ epoch_on (Admits h ts) S none = refl
 epoch_on (Sent h e n b) S none = refl
 epoch_on (Reserves ts) S none = refl
 epoch_on (Moves move) S none = refl
+epoch_on (Gets from n b) S none = refl
+epoch_on (Puts to n b) S none = refl
 
 pub took_now : (S : List Doing) (h : HostId) (n : ℕ) (b : Body) → TookNow S h n b → TookIt S h (epoch S) n b
 took_now [] h n b t = elim t [ ]

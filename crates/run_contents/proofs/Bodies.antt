@@ -16,6 +16,7 @@ use Rattle.run_rules.specs.Doings.{slot_of}
 use Rattle.run_rules.specs.Doings.Slot.{Absent, Arriving, Gone, Leaving, Writable}
 use Rattle.run_rules.specs.Doings.Doing.{Admits, BeginsEpoch, Flushes, MakesWant, Moves, Reserves, Sent, Took}
 use Rattle.run_rules.specs.Doings.Doing.{WritesDown}
+use Rattle.run_rules.specs.Doings.Doing.{Gets, Puts}
 use Rattle.run_rules.specs.Messages.{home}
 
 -- it is one of these four, or none
@@ -149,6 +150,8 @@ module _ (target : Body) (same : (b : Body) → (b ≡ target) ⊎ (b ≡ target
   hears Flushes h = inr (λ q. let r : Flushes ≡ Took h q.0 q.1 target = q.2 in cc)
   hears (MakesWant w) h = inr (λ q. let r : MakesWant w ≡ Took h q.0 q.1 target = q.2 in cc)
   hears (Moves move) h = inr (λ q. let r : Moves move ≡ Took h q.0 q.1 target = q.2 in cc)
+  hears (Gets from n b) h = inr (λ q. let r : Gets from n b ≡ Took h q.0 q.1 target = q.2 in cc)
+  hears (Puts to n b) h = inr (λ q. let r : Puts to n b ≡ Took h q.0 q.1 target = q.2 in cc)
   hears (WritesDown w) h = inr (λ q. let r : WritesDown w ≡ Took h q.0 q.1 target = q.2 in cc)
   hears (Admits k ts) h = inr (λ q. let r : Admits k ts ≡ Took h q.0 q.1 target = q.2 in cc)
   hears (Sent k e n b) h = inr (λ q. let r : Sent k e n b ≡ Took h q.0 q.1 target = q.2 in cc)

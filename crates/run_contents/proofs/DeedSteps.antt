@@ -74,6 +74,8 @@ use Rattle.run_rules.specs.declared.step.Cause.TheVariants.{Restart}
 use Rattle.run_tokens.specs.Unmoved.{MovesNone, MovesOne, is_move}
 use Rattle.run_tokens.proofs.Unmoved.{put_on}
 use Rattle.run_tokens.proofs.TokenRun.{none_moves}
+use Rattle.run_rules.specs.Doings.Doing.{Puts}
+use Rattle.run_rules.specs.Doings.{shipped_by_body, shipping}
 use Rattle.run_rules.specs.declared.step.Step.{Step}
 
 -- the deeds of the rest of a step meet the rules, and what is kept after them is what the kept filesets show
@@ -115,6 +117,19 @@ module _ (c : Contents) (same : IsOfJournal c) (v : ServerId) (s : Step) where
       (sents tree ms more (idle c v a ∷ D) (still c v D tree a (λ p. let q = p.1 in cc) at)
       (taken_on (acts_in D) a (λ w q. let r : Sent m.host m.epoch m.moves m.body ≡ MakesWant w = q in cc) taken)
       may.1 tokens.1 rest)
+
+  ships : (tree : Tree) (ms : List Message) (more : List Doing) (D : List Deed) → At c v D tree
+      → ((D' : List Deed) → At c v D' tree → Ends_so c v D' (with_doing does_nothing more) tree)
+      → Ends_so c v D (with_doing does_nothing (shipping ms ++ more)) tree
+  ships tree [] more D at rest = rest D at
+  ships tree (m ∷ ms) more D at rest =
+      let to = shipped_by_body m.body m.server in
+      let a = Puts to m.moves m.body in
+      one_more c v D (idle c v a) (with_doing does_nothing (shipping ms ++ more)) tree
+      (quiet c v same.root D tree a at
+      (unsent c v D a (λ h e n b q. let r : Puts to m.moves m.body ≡ Sent h e n b = q in cc))
+      (λ h e n b q. let r : Puts to m.moves m.body ≡ Took h e n b = q in cc))
+      (ships tree ms more (idle c v a ∷ D) (still c v D tree a (λ p. let q = p.1 in cc) at) rest)
 
   admits : (tree : Tree) (cs : List Admission) (more : List Doing) (D : List Deed) → At c v D tree → AllTaken (acts_in D)
       → ((D' : List Deed) → acts_in D' ≡ appended (admitting cs) (acts_in D) → At c v D' tree → AllTaken (acts_in D')
@@ -206,7 +221,7 @@ module _ (script : Script) (start : Tree) (firsts : ServerId → ℕ) (past : Li
       S = acts_in D
 
       abbrev tail : List Doing
-      tail = admitting s.admitted ++ (sending s.sent ++ (Reserves s.reserved ∷ []))
+      tail = admitting s.admitted ++ (sending s.sent ++ (shipping s.shipped ++ (Reserves s.reserved ∷ [])))
 
       abbrev rest : List Deed
       rest = decided v s.cause caused (decisions s.applied) ++ with_doing does_nothing tail
@@ -215,19 +230,20 @@ module _ (script : Script) (start : Tree) (firsts : ServerId → ℕ) (past : Li
       sent_last : (D' : List Deed) → acts_in D' ≡ after_deciding s S → At c v D' done → AllTaken (acts_in D')
           → Ends_so c v D' (with_doing does_nothing tail) done
       sent_last D' e at' taken =
-          admits c same v s done s.admitted (sending s.sent ++ (Reserves s.reserved ∷ [])) D' at' taken
+          admits c same v s done s.admitted (sending s.sent ++ (shipping s.shipped ++ (Reserves s.reserved ∷ []))) D' at'
+          taken
           (λ D'' f at'' taken''.
           let all : acts_in D'' ≡ after_admitting s S = f ∙ ap (appended (admitting s.admitted)) e in
-          sents c same v s done s.sent (Reserves s.reserved ∷ []) D'' at'' taken''
+          sents c same v s done s.sent (shipping s.shipped ++ (Reserves s.reserved ∷ [])) D'' at'' taken''
           (subst (EachInTurn (MaySend v done s) (sending s.sent)) (sym all) g.works.sends)
           (subst (EachInTurn (ServerTokens v) (sending s.sent)) (sym all) g.tokens.sends)
-          (λ E at.
+          (λ E' at'''. ships c same v s done s.shipped (Reserves s.reserved ∷ []) E' at''' (λ E at.
           let a = Reserves s.reserved in
           one_more c v E (idle c v a) [] done
           (quiet c v same.root E done a at
           (unsent c v E a (λ h e n b q. let r : Reserves s.reserved ≡ Sent h e n b = q in cc))
           (λ h e n b q. let r : Reserves s.reserved ≡ Took h e n b = q in cc))
-          (no_more c v (idle c v a ∷ E) done (still c v E done a (λ p. let q = p.1 in cc) at))))
+          (no_more c v (idle c v a ∷ E) done (still c v E done a (λ p. let q = p.1 in cc) at)))))
 
       -- what is decided
       from_cause : (D' : List Deed) → acts_in D' ≡ after_cause s.cause S → At c v D' caused → Ends_so c v D' rest done
@@ -336,7 +352,7 @@ cause_first End S more = refl
 
 acts_of : (v : ServerId) (tree : Tree) (S : List Doing) (s : Step) → MovesNone s → acts_in (deeds_of v tree S s) ≡ doings s S
 acts_of v tree S s none =
-    let tail = admitting s.admitted ++ (sending s.sent ++ (Reserves s.reserved ∷ [])) in
+    let tail = admitting s.admitted ++ (sending s.sent ++ (shipping s.shipped ++ (Reserves s.reserved ∷ []))) in
     let caused = filesets_through s.cause (by_cause s.applied) tree in
     let first = with_doing (does_first s.cause tree (by_cause s.applied)) (doings_cause s.cause S []) in
     let middle = decided v s.cause caused (decisions s.applied) in

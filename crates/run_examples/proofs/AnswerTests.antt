@@ -56,6 +56,7 @@ use Rattle.run_rules.specs.declared.applied.Admission.{Admission}
 use Rattle.run_rules.specs.declared.step.Cause.{Cause}
 use Rattle.run_rules.specs.declared.step.Cause.TheVariants.{End, Evict, Flushed, Freight, Lapse, Message as Came}
 use Rattle.run_rules.specs.declared.step.Cause.TheVariants.{Line as LineOf, Restart}
+use Rattle.run_rules.specs.Doings.{after_shipping}
 use Rattle.run_rules.specs.declared.step.Step.{Step}
 
 unfoldable pub is_empty : Body → Bool

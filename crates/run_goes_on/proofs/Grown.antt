@@ -31,6 +31,7 @@ use Rattle.run_rules.specs.declared.step.Step.{Step}
 use Rattle.run_tokens.proofs.Words.{acts_after, if_server}
 use Rattle.run_goes_on.proofs.Doings.{epoch_after_cause, epoch_after_step, epoch_on, epoch_step}
 use Rattle.run_rules.specs.declared.applied.Move.{Move}
+use Rattle.run_rules.specs.Doings.{shipping}
 use Rattle.run_goes_on.proofs.Positions.{doings_on, server_doings}
 
 -- # What each doing leaves so, a step leaves so

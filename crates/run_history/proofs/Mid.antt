@@ -37,6 +37,7 @@ use Rattle.run_history.proofs.Waiting.{AllFresh, cause_sent, causes as causes_fr
 use Rattle.run_tokens.specs.Unmoved.{MovesNone, is_move}
 use Rattle.run_tokens.proofs.TokenRun.{none_moves}
 use Rattle.std.specs.List.{list_any}
+use Rattle.run_rules.specs.Doings.{shipping}
 use Rattle.run_history.proofs.Waiting.{written_down as written_fresh}
 
 -- the decisions alone are doings of their own
@@ -93,7 +94,7 @@ module _ (script : Script) (start : Tree) (firsts : ServerId → ℕ) (real : (v
   none_writes D x h u (inr (g, (t, fresh), gives)) = let q = t.2.0 in cc
 
   abbrev rest : List Doing
-  rest = admitting s.admitted ++ (sending s.sent ++ (Reserves s.reserved ∷ []))
+  rest = admitting s.admitted ++ (sending s.sent ++ (shipping s.shipped ++ (Reserves s.reserved ∷ [])))
 
   -- once the cause is taken
   taken_next : (c : Cause) (more : List Doing) → EachInTurn (Next own_of v) (doings_cause c S more) S

@@ -36,6 +36,7 @@ use Rattle.run_rules.specs.declared.applied.Applied.{Applied}
 use Rattle.run_rules.specs.declared.step.Cause.{Cause}
 use Rattle.run_rules.specs.declared.step.Cause.TheVariants.{End, Evict, Flushed, Freight, Lapse, Line, Message as Came}
 use Rattle.run_rules.specs.declared.step.Cause.TheVariants.{Restart}
+use Rattle.run_rules.specs.Doings.{shipping}
 use Rattle.run_rules.specs.declared.step.Step.{Step}
 
 -- deeds one after the other
@@ -96,7 +97,7 @@ module _ (script : Script) (start : Tree) (firsts : ServerId → ℕ) (c : Conte
   first_does = does_first s.cause K (by_cause s.applied)
 
   abbrev tail : List Doing
-  tail = admitting s.admitted ++ (sending s.sent ++ (Reserves s.reserved ∷ []))
+  tail = admitting s.admitted ++ (sending s.sent ++ (shipping s.shipped ++ (Reserves s.reserved ∷ [])))
 
   abbrev rest : List Deed
   rest = decided v s.cause caused (decisions s.applied) ++ with_doing does_nothing tail
@@ -171,8 +172,9 @@ module _ (script : Script) (start : Tree) (firsts : ServerId → ℕ) (c : Conte
       present =
           first_present c v rest (first ∷ D) (cells_after first (tree c past))
           (filled_last (decided v s.cause caused (decisions s.applied)) (with_doing does_nothing tail)
-          (filled_map _ tail (filled_last (admitting s.admitted) (sending s.sent ++ (Reserves s.reserved ∷ []))
-          (filled_last (sending s.sent) (Reserves s.reserved ∷ []) refl))))
+          (filled_map _ tail (filled_last (admitting s.admitted) (sending s.sent ++ (shipping s.shipped ++ (Reserves s.reserved ∷ [])))
+          (filled_last (sending s.sent) (shipping s.shipped ++ (Reserves s.reserved ∷ []))
+          (filled_last (shipping s.shipped) (Reserves s.reserved ∷ []) refl)))))
           (subst (λ ds. LegalDoings c v ds D (tree c past)) shape legal).2
 
       came : (f : Fid) (p : Part) → site f ≡ v → (cells_then f p).kept ≡ kept_view caused f p

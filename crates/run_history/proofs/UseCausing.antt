@@ -30,6 +30,8 @@ use Rattle.run_rules.specs.declared.step.Cause.{Cause}
 use Rattle.run_rules.specs.declared.step.Cause.TheVariants.{End, Evict, Flushed, Freight, Lapse, Line, Message as Came}
 use Rattle.run_rules.specs.declared.step.Cause.TheVariants.{Restart}
 use Rattle.run_rules.specs.declared.step.Labelled.{Labelled}
+use Rattle.run_rules.specs.Doings.Doing.{Puts}
+use Rattle.run_rules.specs.Doings.{shipped_by_body, shipping}
 use Rattle.run_rules.specs.declared.step.Step.{Step}
 
 -- the cause alone frees uses
@@ -47,6 +49,12 @@ module _ (v : ServerId) (h : HostId) (u : Labelled) where
 
   kept_none : (ts : _) → None (Reserves ts ∷ [])
   kept_none ts = one_less (Reserves ts) [] (λ e n b q. cc) (λ S f. elim f [ ])
+
+  ships_none : (ms : List Message) (more : List Doing) → None more → None (shipping ms ++ more)
+  ships_none [] more rest = rest
+  ships_none (m ∷ ms) more rest =
+      one_less (Puts (shipped_by_body m.body m.server) m.moves m.body) (shipping ms ++ more) (λ e n b q. cc)
+      (ships_none ms more rest)
 
   sents_none : (ms : List Message) (more : List Doing) → None more → None (sending ms ++ more)
   sents_none [] more rest = rest
@@ -72,11 +80,11 @@ module _ (v : ServerId) (h : HostId) (u : Labelled) where
 
   module _ (s : Step) (S : List Doing) where
     abbrev more : List Doing
-    more = deciding s.applied ++ (admitting s.admitted ++ (sending s.sent ++ (Reserves s.reserved ∷ [])))
+    more = deciding s.applied ++ (admitting s.admitted ++ (sending s.sent ++ (shipping s.shipped ++ (Reserves s.reserved ∷ []))))
 
     none_more : None more
     none_more =
-        writes_none s.applied _ (admits_none s.admitted _ (sents_none s.sent _ (kept_none s.reserved)))
+        writes_none s.applied _ (admits_none s.admitted _ (sents_none s.sent _ (ships_none s.shipped _ (kept_none s.reserved))))
 
     by_message : (c : Cause) → FreesAny v (doings_cause c S more) S h u
         → (m : Message) × (c ≡ Came m) × Frees v S (Took m.host m.epoch m.moves m.body) h u

@@ -41,6 +41,7 @@ use Rattle.run_rules.specs.declared.step.Cause.{Cause}
 use Rattle.run_rules.specs.declared.step.Cause.TheVariants.{End, Evict, Flushed, Freight, Lapse, Line, Message as Came}
 use Rattle.run_rules.specs.declared.step.Cause.TheVariants.{Restart}
 use Rattle.run_rules.specs.declared.step.Step.{Step}
+use Rattle.run_rules.specs.Doings.{shipping}
 use Rattle.run_history.specs.UseGranted.{CellsWritten, DecidesGranted, DecisionsAreGranted, GrantedThrough}
 
 module _ (v : ServerId) (cause : Cause) where
@@ -149,7 +150,7 @@ module _ (script : Script) (journal : Journal) (run : IsRun script journal) (c :
     does = does_first s.cause K (by_cause s.applied)
 
     abbrev rest : List Deed
-    rest = with_doing does_nothing (admitting s.admitted ++ (sending s.sent ++ (Reserves s.reserved ∷ [])))
+    rest = with_doing does_nothing (admitting s.admitted ++ (sending s.sent ++ (shipping s.shipped ++ (Reserves s.reserved ∷ []))))
 
     m : StepMeets script start firsts (Server v) past s
     m = subst (λ n. StepMeets script start firsts n past s) e meets

@@ -46,6 +46,7 @@ use Rattle.run_rules.specs.declared.step.Cause.TheVariants.{Restart}
 use Rattle.run_rules.specs.declared.step.Step.{Step}
 use Rattle.run_tokens.proofs.TokenRun.{works_none}
 use Rattle.run_tokens.proofs.Ships.{ships_keep}
+use Rattle.run_rules.specs.Doings.{shipping}
 use Rattle.run_history.proofs.State.{whole}
 
 -- no Done of a Change was said in this epoch

@@ -29,6 +29,7 @@ use Rattle.run_tokens.proofs.Invariant.{Alone}
 use Rattle.run_tokens.proofs.ServerAct.{served_act, link_act}
 use Rattle.run_tokens.proofs.ServerBegin.{served_begin, link_begin}
 use Rattle.run_tokens.proofs.Law.{AtServer}
+use Rattle.run_rules.specs.Doings.{shipped_by_body, shipping}
 use Rattle.run_parts.specs.Doings.{doings, doings_cause}
 
 -- a doing that sends, admits, writes and keeps nothing needs no leave

@@ -4,6 +4,8 @@ use Rattle.run_rules.specs.Doings.Doing.{BeginsEpoch, Flushes, Reserves, Took}
 use Rattle.std.specs.Prelude.{List, [], suc, ◌++◌, ◌∷◌}
 use Rattle.run_rules.specs.declared.step.Cause.{Cause}
 use Rattle.run_rules.specs.declared.step.Cause.TheVariants.{Message as Came, Restart, Flushed}
+use Rattle.run_rules.specs.Doings.Doing.{Gets}
+use Rattle.run_rules.specs.Doings.{shipping}
 use Rattle.run_rules.specs.declared.step.Step.{Step}
 
 abbrev pub doings_cause : Cause → List Doing → List Doing → List Doing

@@ -97,6 +97,7 @@ use Rattle.run_rules.specs.Tokens.{number_of}
 use Rattle.server_tables.specs.declared.recovering.Recovering.{Recovering}
 use Rattle.server_exporter.specs.Machines.{AreTold}
 use Rattle.server_exporter.proofs.Tolds.{told_admitted, told_caused, told_decided, told_words}
+use Rattle.run_rules.specs.Doings.{after_shipping}
 use Rattle.server_exporter.proofs.Middle.{AreGranted, HasCause, IsMid, cause_of, granted_of, mid_of}
 
 -- # What the cause applied stands before what was decided

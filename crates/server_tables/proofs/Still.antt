@@ -45,6 +45,7 @@ use Rattle.server_tables.specs.Standing.{AnsweredStand, ChangesStand, GivesStand
 use Rattle.server_tables.specs.Standing.{QueueStands, RecoveryStands, Stands}
 use Rattle.run_tokens.specs.Unmoved.{MovesOne}
 use Rattle.run_tokens.proofs.Unmoved.{slot_on}
+use Rattle.run_rules.specs.Doings.Doing.{Gets, Puts}
 use Rattle.server_tables.specs.Standing.{StampsStand, TokensStand, WantsStand, WroteThis}
 
 pub same_epoch : (a : Doing) (n : ℕ) → (IsNewEpoch a → ⊥) → epoch_after a n ≡ n
@@ -57,6 +58,8 @@ same_epoch (Admits h ts) n calm = refl
 same_epoch (Sent h e m b) n calm = refl
 same_epoch (Reserves ts) n calm = refl
 same_epoch (Moves move) n calm = refl
+same_epoch (Gets from k b) n calm = refl
+same_epoch (Puts to k b) n calm = refl
 
 -- it begins no epoch, moves no fileset, admits no claim, and no host goes away by it; a host may come on the list
 pub record HostsCalm (past : List Doing) (a : Doing) : Type 0 where
