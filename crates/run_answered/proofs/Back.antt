@@ -14,6 +14,9 @@ use Rattle.run_rules.specs.declared.applied.Applied.{Applied}
 use Rattle.run_rules.specs.declared.applied.Wanted.{Wanted}
 use Rattle.run_rules.specs.declared.applied.Written.{Written}
 use Rattle.run_rules.specs.declared.applied.Move.{Move}
+use Rattle.run_tokens.proofs.Ships.{once_shipped, once_ships}
+use Rattle.run_rules.specs.Doings.Doing.{Puts}
+use Rattle.run_rules.specs.Doings.{after_sending}
 use Rattle.run_rules.specs.declared.step.Step.{Step}
 
 pub later : {X : Type 0} (P : List X → X → Type 0) (xs ys : List X) → Once P ys → Once P (appended xs ys)
@@ -57,13 +60,17 @@ module _ (P : List Doing → Doing → Type 0) where
   -- after its decisions a step writes and takes nothing
   pub back_written : ((before : List Doing) (h : HostId) (e n : ℕ) (b : Body) → P before (Sent h e n b) → ⊥)
       → ((before : List Doing) (h : HostId) (ts : List Token) → P before (Admits h ts) → ⊥)
-      → ((before : List Doing) (ts : List Token) → P before (Reserves ts) → ⊥) → (s : Step) (S : List Doing)
+      → ((before : List Doing) (ts : List Token) → P before (Reserves ts) → ⊥)
+      → ((before : List Doing) (to : ServerId) (n : ℕ) (b : Body) → P before (Puts to n b) → ⊥)
+      → (s : Step) (S : List Doing)
       → Once P (after_step s S) → Once P (after_deciding s S)
-  back_written sent admits reserves s S o =
+  back_written sent admits reserves puts s S o =
       back_admitting admits s.admitted (after_deciding s S)
       (back_sending sent s.sent (after_admitting s S)
-      (on_one (Reserves s.reserved) _ (λ before. reserves before s.reserved) o))
+      (once_ships P puts s.shipped (after_sending s S)
+      (on_one (Reserves s.reserved) _ (λ before. reserves before s.reserved) o)))
 
   pub on_written : (s : Step) (S : List Doing) → Once P (after_deciding s S) → Once P (after_step s S)
   on_written s S o =
-      inr (later P (sending s.sent) (after_admitting s S) (later P (admitting s.admitted) (after_deciding s S) o))
+      inr (once_shipped P s.shipped (after_sending s S)
+      (later P (sending s.sent) (after_admitting s S) (later P (admitting s.admitted) (after_deciding s S) o)))

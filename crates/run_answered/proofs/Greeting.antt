@@ -42,6 +42,8 @@ use Rattle.run_tokens.proofs.Words.{acts_after, if_host, if_server, own_after}
 use Rattle.run_rules.specs.declared.step.Cause.{Cause}
 use Rattle.run_rules.specs.declared.step.Cause.TheVariants.{End, Evict, Flushed, Freight, Lapse, Line, Message as Came}
 use Rattle.run_rules.specs.declared.step.Cause.TheVariants.{Restart}
+use Rattle.run_tokens.proofs.Ships.{once_ships}
+use Rattle.run_rules.specs.Doings.{after_sending}
 use Rattle.run_rules.specs.declared.step.Step.{Step}
 
 -- a server took this
@@ -90,7 +92,8 @@ module _ (h : HostId) (e n : ℕ) (b : Body) where
 
   sent_split : (s : Step) (S : List Doing) → SentTo (after_step s S) h e n b → SentTo S h e n b ⊎ SentNow s h b
   sent_split s S (inl q) = absurd (let z : Reserves s.reserved ≡ Sent h e n b = q in cc)
-  sent_split s S (inr o) = elim (split_sending s.sent (after_admitting s S) o) [
+  sent_split s S (inr o) = elim (split_sending s.sent (after_admitting s S)
+      (once_ships (λ before a. a ≡ Sent h e n b) (λ T to k c q. cc) s.shipped (after_sending s S) o)) [
     | inr k ↦ inr k
     | inl old ↦ inl (cause_back s.cause S
         (back_deciding (λ before a. a ≡ Sent h e n b) (λ before w q. cc) (λ before w q. cc) (λ before w q. cc) s.applied

@@ -37,6 +37,7 @@ use Rattle.run_rules.specs.declared.step.Step.{Step}
 use Rattle.run_tokens.specs.Unmoved.{StaysPut}
 use Rattle.run_tokens.proofs.Unmoved.{put_on}
 use Rattle.run_tokens.proofs.Ships.{ships_keep}
+use Rattle.run_tokens.proofs.Ships.{epoch_shipping, once_ships}
 use Rattle.run_tokens.proofs.Words.{acts_after, if_host, if_server, own_after}
 
 -- # Epochs
@@ -76,7 +77,9 @@ epoch_before_sending s S =
     epoch_admitting s.admitted (after_deciding s S) ∙ epoch_deciding s.applied (after_cause s.cause S)
 
 pub epoch_step : (s : Step) (S : List Doing) → epoch (after_step s S) ≡ epoch (after_cause s.cause S)
-epoch_step s S = epoch_sending s.sent (after_admitting s S) ∙ epoch_before_sending s S
+epoch_step s S =
+    epoch_shipping s.shipped (after_sending s S)
+    ∙ (epoch_sending s.sent (after_admitting s S) ∙ epoch_before_sending s S)
 
 epoch_caused : (c : Cause) (S : List Doing) → epoch S ≤ epoch (after_cause c S)
 epoch_caused (Came m) S = omega arith
@@ -367,7 +370,8 @@ module _ (h : HostId) (e n : ℕ) (b : Body) where
   took_step v past s S came (inr o) =
       took_cause v past s S came s.cause refl
       (took_deciding s.applied (after_cause s.cause S)
-      (took_admitting s.admitted (after_deciding s S) (took_sending s.sent (after_admitting s S) o)))
+      (took_admitting s.admitted (after_deciding s S) (took_sending s.sent (after_admitting s S)
+      (once_ships (λ before a. a ≡ Took h e n b) (λ T to k c q. cc) s.shipped (after_sending s S) o))))
 
 module _ (script : Script) (start : Tree) (firsts : ServerId → ℕ) (real : (v : ServerId) → 0 < firsts v) where
   above_step : (v : ServerId) (past : List Step) (s : Step) (k : Node) → 0 < epoch (doings_of (firsts v) v past)

@@ -32,6 +32,7 @@ use Rattle.run_tokens.proofs.Words.{acts_after, if_server}
 use Rattle.run_goes_on.proofs.Doings.{epoch_after_cause, epoch_after_step, epoch_on, epoch_step}
 use Rattle.run_rules.specs.declared.applied.Move.{Move}
 use Rattle.run_rules.specs.Doings.{shipping}
+use Rattle.run_tokens.proofs.Ships.{once_ships, ships_back, since_shipped, since_ships}
 use Rattle.run_goes_on.proofs.Positions.{doings_on, server_doings}
 
 -- # What each doing leaves so, a step leaves so
@@ -112,8 +113,8 @@ module _ (P : List Doing → Doing → Type 0) where
 
   pub in_caused : (s : Step) (S : List Doing) → InEpoch P (after_cause s.cause S) → InEpoch P (after_step s S)
   in_caused s S x = inr (
-    in_sending s.sent (after_admitting s S)
-        (in_admitting s.admitted (after_deciding s S) (in_deciding s.applied (after_cause s.cause S) x)),
+    since_shipped P s.shipped (after_sending s S) (in_sending s.sent (after_admitting s S)
+        (in_admitting s.admitted (after_deciding s S) (in_deciding s.applied (after_cause s.cause S) x))),
     λ k. (let z : Reserves s.reserved ≡ BeginsEpoch k.0 = k.1 in cc),
   )
 
@@ -229,6 +230,9 @@ module _ (P : List Doing → Doing → Type 0) (takes : IsTaking P) where
   no_send : (S : List Doing) (h : HostId) (e n : ℕ) (b : Body) → P S (Sent h e n b) → ⊥
   no_send S h e n b x = let k = takes S (Sent h e n b) x in let z : Sent h e n b ≡ Took k.0 k.1 k.2 k.3 = k.4 in cc
 
+  no_put : (S : List Doing) (to : ServerId) (n : ℕ) (b : Body) → P S (Puts to n b) → ⊥
+  no_put S to n b x = let k = takes S (Puts to n b) x in let z : Puts to n b ≡ Took k.0 k.1 k.2 k.3 = k.4 in cc
+
   pub taken_admitting : (cs : List Admission) (s : Step) (S : List Doing)
       → InEpoch P (appended (admitting cs) (after_deciding s S)) → InEpoch P (after_cause s.cause S)
   taken_admitting cs s S x =
@@ -239,7 +243,9 @@ module _ (P : List Doing → Doing → Type 0) (takes : IsTaking P) where
   taken_step s S (inl x) =
       let k = takes (after_shipping s S) (Reserves s.reserved) x in
       absurd (let z : Reserves s.reserved ≡ Took k.0 k.1 k.2 k.3 = k.4 in cc)
-  taken_step s S (inr x) = taken_admitting s.admitted s S (back_sending P no_send s.sent (after_admitting s S) x.0)
+  taken_step s S (inr x) =
+      taken_admitting s.admitted s S
+      (back_sending P no_send s.sent (after_admitting s S) (since_ships P no_put s.shipped (after_sending s S) x.0))
 
 -- and what once was taken
 module _ (P : List Doing → Doing → Type 0) (takes : IsTaking P) where
@@ -281,7 +287,8 @@ module _ (P : List Doing → Doing → Type 0) (takes : IsTaking P) where
       absurd (let z : Reserves s.reserved ≡ Took k.0 k.1 k.2 k.3 = k.4 in cc)
   once_step s S (inr x) =
       once_deciding s.applied (after_cause s.cause S)
-      (once_admitting s.admitted (after_deciding s S) (once_sending s.sent (after_admitting s S) x))
+      (once_admitting s.admitted (after_deciding s S) (once_sending s.sent (after_admitting s S)
+      (once_ships P (no_put P takes) s.shipped (after_sending s S) x)))
 
 -- # Who has reclaimed after a step has so once its cause was taken, or the step admits a claim of it
 enlists_hearing : (S : List Doing) (a : Doing) (h : HostId) → Enlists S a h → Hears a h Hello
@@ -300,6 +307,11 @@ module _ (h : HostId) where
   written_no S w (inl (ts, q)) = let z : WritesDown w ≡ Admits h ts = q in cc
   written_no S w (inr x) =
       let k = enlists_hearing S (WritesDown w) h x in let z : WritesDown w ≡ Took h k.0 k.1 Hello = k.2 in cc
+
+  put_no : (S : List Doing) (to : ServerId) (n : ℕ) (b : Body) → Reclaims S (Puts to n b) → ⊥
+  put_no S to n b (inl (ts, q)) = let z : Puts to n b ≡ Admits h ts = q in cc
+  put_no S to n b (inr x) =
+      let k = enlists_hearing S (Puts to n b) h x in let z : Puts to n b ≡ Took h k.0 k.1 Hello = k.2 in cc
 
   moved_no : (S : List Doing) (move : Move) → Reclaims S (Moves move) → ⊥
   moved_no S move (inl (ts, q)) = let z : Moves move ≡ Admits h ts = q in cc
@@ -331,7 +343,8 @@ module _ (h : HostId) where
       absurd (let z : Reserves s.reserved ≡ Took h k.0 k.1 Hello = k.2 in cc)
   reclaims_step s S (inr r) =
       elim (reclaims_admitting s.admitted (after_deciding s S)
-      (back_sending Reclaims sent_no s.sent (after_admitting s S) r.0)) [
+      (back_sending Reclaims sent_no s.sent (after_admitting s S)
+      (since_ships Reclaims put_no s.shipped (after_sending s S) r.0))) [
         | inl d ↦ inl (back_deciding Reclaims wanted_no written_no moved_no s.applied (after_cause s.cause S) d)
         | inr k ↦ inr k
       ]
@@ -429,7 +442,8 @@ module _ (h : HostId) (e n : ℕ) (b : Body) where
       → SentTo S h e n b
       ⊎ ((m : Message) × In m s.sent × (m.host ≡ h) × (m.epoch ≡ e) × (m.moves ≡ n) × (m.body ≡ b))
   sent_split s S (inl q) = absurd (let z : Reserves s.reserved ≡ Sent h e n b = q in cc)
-  sent_split s S (inr o) = elim (sent_sending s.sent (after_admitting s S) o) [
+  sent_split s S (inr o) = elim (sent_sending s.sent (after_admitting s S)
+      (once_ships (λ before a. a ≡ Sent h e n b) (λ T to k c q. cc) s.shipped (after_sending s S) o)) [
     | inr k ↦ inr k
     | inl k ↦ inl (sent_cause s.cause S
         (sent_deciding s.applied (after_cause s.cause S) (sent_admitting s.admitted (after_deciding s S) k)))
@@ -485,13 +499,20 @@ module _ (h : HostId) where
   listed_cause (Freight freight) S (inr k) = inl k
   listed_cause End S k = inl k
 
+  listed_ships : (ms : List Message) (S : List Doing) → Listed (appended (shipping ms) S) h → Listed S h
+  listed_ships = ships_back (λ T. Listed T h) (λ T to n b l. elim l [
+    | inl k ↦ (let q = k.0 in absurd (let z : Puts to n b ≡ Took h q.0 q.1 Hello = q.2 in cc))
+    | inr k ↦ k
+  ])
+
   pub listed_step : (s : Step) (S : List Doing) → Listed (after_step s S) h
       → Listed S h ⊎ ListedNow (after_step s S) h
   listed_step s S (inl k) =
       let q = k.0 in absurd (let z : Reserves s.reserved ≡ Took h q.0 q.1 Hello = q.2 in cc)
   listed_step s S (inr x) =
       elim (listed_cause s.cause S (listed_deciding s.applied (after_cause s.cause S)
-      (listed_admitting s.admitted (after_deciding s S) (listed_sending s.sent (after_admitting s S) x)))) [
+      (listed_admitting s.admitted (after_deciding s S) (listed_sending s.sent (after_admitting s S)
+      (listed_ships s.shipped (after_sending s S) x))))) [
         | inl k ↦ inl k
         | inr now ↦ inr (in_caused (λ before a. Enlists before a h) s S now)
       ]

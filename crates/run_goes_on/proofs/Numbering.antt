@@ -49,6 +49,9 @@ use Rattle.run_goes_on.proofs.Arriving.{step_on}
 use Rattle.run_goes_on.proofs.Grown.{sent_split}
 use Rattle.run_tokens.specs.Unmoved.{StaysPut}
 use Rattle.run_tokens.proofs.Unmoved.{put_on}
+use Rattle.run_tokens.proofs.Ships.{once_shipped, once_ships}
+use Rattle.run_rules.specs.Doings.Doing.{Puts}
+use Rattle.run_rules.specs.Doings.{after_sending}
 use Rattle.run_goes_on.proofs.Positions.{once_on}
 
 -- # What a step sends
@@ -79,7 +82,9 @@ in_sents (x ∷ ms) S m (inl q) =
 -- after the step it was sent
 pub was_sent_by : (s : Step) (S : List Doing) (m : Message) → In m s.sent
     → SentTo (after_step s S) m.host m.epoch m.moves m.body
-was_sent_by s S m i = inr (in_sents s.sent (after_admitting s S) m i)
+was_sent_by s S m i =
+    inr (once_shipped (λ before a. a ≡ Sent m.host m.epoch m.moves m.body) s.shipped (after_sending s S)
+    (in_sents s.sent (after_admitting s S) m i))
 
 -- # What is written down
 
@@ -162,7 +167,8 @@ module _ (h : HostId) (fs : FilesetId) (k : ℕ) where
   written_split s S (inl x) = absurd (let z : Reserves s.reserved ≡ WritesDown x.0 = x.1 in cc)
   written_split s S (inr o) =
       elim (written_deciding s.applied (after_cause s.cause S)
-      (written_admitting s.admitted (after_deciding s S) (written_sending s.sent (after_admitting s S) o))) [
+      (written_admitting s.admitted (after_deciding s S) (written_sending s.sent (after_admitting s S)
+      (once_ships Writes (λ T to n b x. (let z : Puts to n b ≡ WritesDown x.0 = x.1 in cc)) s.shipped (after_sending s S) o)))) [
         | inl old ↦ inl (written_cause s.cause S old)
         | inr now ↦ inr now
       ]

@@ -58,6 +58,9 @@ use Rattle.run_goes_on.proofs.Positions.{doings_on, host_steps, own_on, own_run,
 use Rattle.run_goes_on.proofs.Posted.{comes_of}
 use Rattle.run_goes_on.proofs.Stopping.{stopped_away}
 use Rattle.run_goes_on.specs.Rest.{AllIsOver, IsStopped, LapsesIn, NoneIsHeld}
+use Rattle.run_tokens.proofs.Ships.{since_ships}
+use Rattle.run_rules.specs.Doings.Doing.{Puts}
+use Rattle.run_rules.specs.Doings.{after_sending}
 use Rattle.run_goes_on.specs.Waiting.{NothingIsOwed}
 
 abbrev Reclaims : HostId → List Doing → Doing → Type 0
@@ -86,7 +89,9 @@ module _ (t : Token) where
       → HasRevoked (after_cause s.cause S) t ⊎ ((r : RevokeOf) × SentNow s t.host (Revoke r) × In t.id r.ids)
   asks_step s S (inl (e, n, r, q, i)) =
       absurd (let z : Reserves s.reserved ≡ Sent t.host e n (Revoke r) = q in cc)
-  asks_step s S (inr x) = elim (asks_sending s.sent (after_admitting s S) x.0) [
+  asks_step s S (inr x) = elim (asks_sending s.sent (after_admitting s S)
+      (since_ships Asks (λ T to n b a. (let z : Puts to n b ≡ Sent t.host a.0 a.1 (Revoke a.2) = a.3 in cc)) s.shipped
+      (after_sending s S) x.0)) [
     | inr k ↦ inr (k.0, (k.1, k.2, k.3, k.4), k.5)
     | inl k ↦ inl (back_deciding Asks
         (λ T w a. (let z : MakesWant w ≡ Sent t.host a.0 a.1 (Revoke a.2) = a.3 in cc))

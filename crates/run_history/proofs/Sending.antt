@@ -45,6 +45,8 @@ use Rattle.run_tokens.specs.Unmoved.{MovesOne, StaysPut, is_move}
 use Rattle.run_tokens.proofs.Unmoved.{cause_put, put_on}
 use Rattle.run_tokens.proofs.TokenRun.{none_moves, stays_put}
 use Rattle.run_tokens.proofs.Ships.{ships_keep}
+use Rattle.run_rules.specs.Doings.Doing.{Gets}
+use Rattle.run_rules.specs.declared.step.Cause.TheVariants.{Freight}
 use Rattle.run_rules.specs.declared.step.Step.{Step}
 
 -- no fileset has moved, what waits was taken, and what was taken its host said
@@ -141,6 +143,8 @@ module _ (Q : HostId → ℕ → ℕ → Body → Type 0) where
   causes_sent (Came m) S old = other S (Took m.host m.epoch m.moves m.body) (λ h e n b q. absurd (cc)) old
   causes_sent (Restart line) S old = other S (BeginsEpoch (suc (epoch S))) (λ h e n b q. absurd (cc)) old
   causes_sent Flushed S old = other S Flushes (λ h e n b q. absurd (cc)) old
+  causes_sent (Freight freight) S old =
+      other S (Gets freight.server freight.moves freight.body) (λ h e n b q. absurd (cc)) old
   causes_sent _ S old = old
 
   pub none_sent : (first : ℕ) → AllSent (BeginsEpoch first ∷ [])

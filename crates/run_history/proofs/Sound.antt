@@ -43,6 +43,9 @@ use Rattle.run_rules.specs.declared.applied.Applied.{Applied}
 use Rattle.run_rules.specs.declared.step.Cause.{Cause}
 use Rattle.run_rules.specs.declared.step.Cause.TheVariants.{End, Evict, Flushed, Freight, Lapse, Line, Message as Came}
 use Rattle.run_rules.specs.declared.step.Cause.TheVariants.{Restart}
+use Rattle.run_tokens.proofs.Ships.{ships_keep}
+use Rattle.run_rules.specs.Doings.Doing.{Puts}
+use Rattle.run_rules.specs.Doings.{after_sending, after_shipping}
 use Rattle.run_rules.specs.declared.step.Step.{Step}
 
 -- a sound message with a body
@@ -98,9 +101,10 @@ module _ (script : Script) (h : HostId) (e n : ℕ) (b : Body) where
   steps : (s : Step) (S : List Doing) → ((m : Message) → In m s.sent → IsSound script.roster m) → AllSound S
       → AllSound (after_step s S)
   steps s S sound old =
-      other (appended (sending s.sent) (after_admitting s S)) (Reserves s.reserved) (λ q. cc)
+      other (after_shipping s S) (Reserves s.reserved) (λ q. cc)
+      (ships_keep AllSound (λ T to k c was. other T (Puts to k c) (λ q. cc) was) s.shipped (after_sending s S)
       (sents s.sent (after_admitting s S) sound
-      (admits s.admitted (after_deciding s S) (writes s.applied (after_cause s.cause S) (causes s.cause S old))))
+      (admits s.admitted (after_deciding s S) (writes s.applied (after_cause s.cause S) (causes s.cause S old)))))
 
   module _ (start : Tree) (firsts : ServerId → ℕ) (v : ServerId) where
     at_node : (k : Node) (s : Step) (S : List Doing) → ((m : Message) → In m s.sent → IsSound script.roster m)

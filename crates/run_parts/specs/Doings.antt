@@ -6,6 +6,7 @@ use Rattle.run_rules.specs.declared.step.Cause.{Cause}
 use Rattle.run_rules.specs.declared.step.Cause.TheVariants.{Message as Came, Restart, Flushed}
 use Rattle.run_rules.specs.Doings.Doing.{Gets}
 use Rattle.run_rules.specs.Doings.{shipping}
+use Rattle.run_rules.specs.declared.step.Cause.TheVariants.{Freight}
 use Rattle.run_rules.specs.declared.step.Step.{Step}
 
 abbrev pub doings_cause : Cause → List Doing → List Doing → List Doing
