@@ -94,12 +94,12 @@ module _ (h : HostId) (e n : ℕ) (b : Body) where
   sent_split s S (inl q) = absurd (let z : Reserves s.reserved ≡ Sent h e n b = q in cc)
   sent_split s S (inr o) = elim (split_sending s.sent (after_admitting s S)
       (once_ships (λ before a. a ≡ Sent h e n b) (λ T to k c q. cc) s.shipped (after_sending s S) o)) [
-    | inr k ↦ inr k
-    | inl old ↦ inl (cause_back s.cause S
-        (back_deciding (λ before a. a ≡ Sent h e n b) (λ before w q. cc) (λ before w q. cc) (λ before w q. cc) s.applied
-        (after_cause s.cause S)
-        (back_admitting (λ before a. a ≡ Sent h e n b) (λ before g ts q. cc) s.admitted (after_deciding s S) old)))
-  ]
+        | inr k ↦ inr k
+        | inl old ↦ inl (cause_back s.cause S
+            (back_deciding (λ before a. a ≡ Sent h e n b) (λ before w q. cc) (λ before w q. cc) (λ before w q. cc) s.applied
+            (after_cause s.cause S)
+            (back_admitting (λ before a. a ≡ Sent h e n b) (λ before g ts q. cc) s.admitted (after_deciding s S) old)))
+      ]
 
 -- what a step hears it takes
 heard_now : (s : Step) (S : List Doing) (h : HostId) (b : Body) → HeardNow s h b → TookEver (after_cause s.cause S) h b

@@ -444,10 +444,10 @@ module _ (h : HostId) (e n : ℕ) (b : Body) where
   sent_split s S (inl q) = absurd (let z : Reserves s.reserved ≡ Sent h e n b = q in cc)
   sent_split s S (inr o) = elim (sent_sending s.sent (after_admitting s S)
       (once_ships (λ before a. a ≡ Sent h e n b) (λ T to k c q. cc) s.shipped (after_sending s S) o)) [
-    | inr k ↦ inr k
-    | inl k ↦ inl (sent_cause s.cause S
-        (sent_deciding s.applied (after_cause s.cause S) (sent_admitting s.admitted (after_deciding s S) k)))
-  ]
+        | inr k ↦ inr k
+        | inl k ↦ inl (sent_cause s.cause S
+            (sent_deciding s.applied (after_cause s.cause S) (sent_admitting s.admitted (after_deciding s S) k)))
+      ]
 
 -- # Who is on the list after a step was on it, or came on it in this epoch
 module _ (h : HostId) where

@@ -92,16 +92,16 @@ module _ (t : Token) where
   asks_step s S (inr x) = elim (asks_sending s.sent (after_admitting s S)
       (since_ships Asks (λ T to n b a. (let z : Puts to n b ≡ Sent t.host a.0 a.1 (Revoke a.2) = a.3 in cc)) s.shipped
       (after_sending s S) x.0)) [
-    | inr k ↦ inr (k.0, (k.1, k.2, k.3, k.4), k.5)
-    | inl k ↦ inl (back_deciding Asks
-        (λ T w a. (let z : MakesWant w ≡ Sent t.host a.0 a.1 (Revoke a.2) = a.3 in cc))
-        (λ T w a. (let z : WritesDown w ≡ Sent t.host a.0 a.1 (Revoke a.2) = a.3 in cc))
-        (λ T m a. (let z : Moves m ≡ Sent t.host a.0 a.1 (Revoke a.2) = a.3 in cc)) s.applied
-        (after_cause s.cause S)
-        (back_admitting Asks (λ T h ts a. (let z : Admits h ts ≡ Sent t.host a.0 a.1
-        (Revoke a.2) = a.3 in cc)) s.admitted
-        (after_deciding s S) k))
-  ]
+        | inr k ↦ inr (k.0, (k.1, k.2, k.3, k.4), k.5)
+        | inl k ↦ inl (back_deciding Asks
+            (λ T w a. (let z : MakesWant w ≡ Sent t.host a.0 a.1 (Revoke a.2) = a.3 in cc))
+            (λ T w a. (let z : WritesDown w ≡ Sent t.host a.0 a.1 (Revoke a.2) = a.3 in cc))
+            (λ T m a. (let z : Moves m ≡ Sent t.host a.0 a.1 (Revoke a.2) = a.3 in cc)) s.applied
+            (after_cause s.cause S)
+            (back_admitting Asks (λ T h ts a. (let z : Admits h ts ≡ Sent t.host a.0 a.1
+            (Revoke a.2) = a.3 in cc)) s.admitted
+            (after_deciding s S) k))
+      ]
 
   asks_cause : (c : Cause) (S : List Doing) → HasRevoked (after_cause c S) t
       → HasRevoked S t × (epoch (after_cause c S) ≡ epoch S)

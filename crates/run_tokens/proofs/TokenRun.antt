@@ -119,13 +119,12 @@ stays_put script start firsts (s ∷ past) run v =
 pub token_run : (script : Script) (start : Tree) (firsts : ServerId → ℕ) (past : List Step)
     → ((v : ServerId) → 0 < firsts v) → StepsMeet script start firsts past → IsTokenRun firsts past
 token_run script start firsts [] up run = up
-token_run script start firsts (s ∷ past) up run =
-    (
-      token_run script start firsts past up run.0,
-      step_may script start firsts s.node past s run.1.0,
-      λ m i. (run.1.3 m i).0,
-      none_moves script start firsts s.node past s run.1.0,
-    )
+token_run script start firsts (s ∷ past) up run = (
+  token_run script start firsts past up run.0,
+  step_may script start firsts s.node past s run.1.0,
+  λ m i. (run.1.3 m i).0,
+  none_moves script start firsts s.node past s run.1.0,
+)
 
 above : (n : ℕ) → 0 < max 1 n
 above n = omega arith
