@@ -37,7 +37,8 @@ use Rattle.run_rules.specs.declared.step.Cause.{Cause}
 use Rattle.run_rules.specs.declared.step.Cause.TheVariants.{Evict, Flushed, Freight, Lapse}
 use Rattle.run_rules.specs.declared.step.Cause.TheVariants.{Line, Message as Came, Restart}
 use Rattle.run_rules.specs.declared.step.Cause.TheVariants.{End}
-use Rattle.run_tokens.proofs.Ships.{ships_keep}
+use Rattle.run_tokens.proofs.Ships.{ships_back, ships_keep}
+use Rattle.run_rules.specs.Doings.{shipping}
 use Rattle.run_rules.specs.declared.step.Step.{Step}
 
 -- a Fetch that asks for what the Grant brings was taken
@@ -150,6 +151,9 @@ module _ (h : HostId) (e n : ℕ) (b : Body) where
     | inr k ↦ k
   ]
 
+  not_shipped : (ms : List Message) (S : List Doing) → In (Took h e n b) (appended (shipping ms) S) → In (Took h e n b) S
+  not_shipped = ships_back (λ T. In (Took h e n b) T) (λ T to k c i. elim i [ inl q ↦ absurd (cc) | inr j ↦ j ])
+
   not_admitted : (cs : List Admission) (S : List Doing) → In (Took h e n b) (appended (admitting cs) S) → In (Took h e n b) S
   not_admitted [] S i = i
   not_admitted (c ∷ cs) S i = elim (not_admitted cs (Admits c.host c.tokens ∷ S) i) [
@@ -187,7 +191,8 @@ module _ (h : HostId) (e n : ℕ) (b : Body) where
   in_step s S (inl q) = absurd (cc)
   in_step s S (inr i) =
       by_cause s.cause S (not_written s.applied (after_cause s.cause S)
-      (not_admitted s.admitted (after_deciding s S) (not_sent s.sent (after_admitting s S) i)))
+      (not_admitted s.admitted (after_deciding s S) (not_sent s.sent (after_admitting s S)
+      (not_shipped s.shipped (after_sending s S) i))))
 
   said_on : (k : Node) (s : Step) (A : List Step) (v : ServerId) → Said A v e n b → Said (own_after h k s A) v e n b
   said_on (Host k) s A v q = if_host (λ L. Said L v e n b) k h (s ∷ A) A (λ _. inr q) q

@@ -39,9 +39,11 @@ use Rattle.run_rules.specs.declared.step.Cause.TheVariants.{End, Evict, Flushed,
 use Rattle.run_rules.specs.declared.step.Cause.TheVariants.{Line, Message as Came, Restart}
 use Rattle.run_rules.specs.declared.step.Step.{Step}
 use Rattle.run_tokens.proofs.Law.{Whole}
-use Rattle.run_tokens.proofs.Unmoved.{here_is, here_was}
+use Rattle.run_rules.specs.Kept.{filesets_kept}
+use Rattle.run_tokens.proofs.TokenRun.{works_none}
+use Rattle.run_tokens.proofs.Unmoved.{admitting_put, cause_put, deciding_put, here_is, here_was, step_put}
 use Rattle.run_tokens.proofs.Words.{acts_after, if_host, if_server, own_after, stay_first}
-use Rattle.run_tokens.specs.Unmoved.{StaysPut}
+use Rattle.run_tokens.specs.Unmoved.{MovesNone, StaysPut}
 use Rattle.run_goes_on.proofs.Arriving.{due_at, due_of, found, from_cause, from_one, host_sends, meets_at, step_on}
 use Rattle.run_goes_on.proofs.Arriving.{whole_at}
 use Rattle.run_goes_on.proofs.Claiming.{IsOnList, acts_later, own_later, waiting}
@@ -374,6 +376,17 @@ module _ (script : Script) (start : Tree) (firsts : ServerId → ℕ) (real : (v
       same : epoch caused ≡ e0
       same = same_by u.cause refl ∙ now
 
+      -- where filesets are
+      put : StaysPut S
+      put = ((all (u ∷ l) p a.whole).at v).served.put
+
+      none_moved : MovesNone u
+      none_moved =
+          works_none v (filesets_kept start v (steps_of_server v p)) S u (may_at l p u a.whole at).works.applies
+
+      here_later : (T : List Doing) → StaysPut T → (fs : FilesetId) (n : ℕ) → Here v caused fs n → Here v T fs n
+      here_later T put_T fs n h = here_was v T fs n put_T (here_is v caused fs n (cause_put u.cause S put) h)
+
       module _ (took : TookNow caused host m.moves (Reclaim claim)) where
         lacks_caused : HasTakenGives v caused host claim → ⊥
         lacks_caused whole =
@@ -381,14 +394,15 @@ module _ (script : Script) (start : Tree) (firsts : ServerId → ℕ) (real : (v
             no_answer l p u a at k.1.0 k.1.1 same
 
         lacks_after : HasTakenGives v (after_step u S) host claim → ⊥
-        lacks_after whole = lacks_caused (λ o i up h. (let k = whole o i up h in (
-          k.0,
-          subst (λ (fs : FilesetId). TookOf v caused host fs (GiveBack k.0)) k.2
-              (taken_step (λ before x. TakesOf v before x host k.0.fid.fileset (GiveBack k.0)) (of_takes v host k.0) u S
-              (subst (λ (fs : FilesetId). TookOf v (after_step u S) host fs (GiveBack k.0)) (sym k.2) k.1)),
-          k.2,
-          k.3,
-        )))
+        lacks_after whole = lacks_caused (λ o i up h. (let k = whole o i up (here_later (after_step u S)
+            (step_put u S none_moved put) o.fileset o.moves h) in (
+              k.0,
+              subst (λ (fs : FilesetId). TookOf v caused host fs (GiveBack k.0)) k.2
+                  (taken_step (λ before x. TakesOf v before x host k.0.fid.fileset (GiveBack k.0)) (of_takes v host k.0) u S
+                  (subst (λ (fs : FilesetId). TookOf v (after_step u S) host fs (GiveBack k.0)) (sym k.2) k.1)),
+              k.2,
+              k.3,
+            )))
 
         admits_not : (c : Admission) → In c u.admitted → c.host ≡ host → ⊥
         admits_not c i is =
@@ -398,7 +412,9 @@ module _ (script : Script) (start : Tree) (firsts : ServerId → ℕ) (real : (v
             let d = u_due.answers.claim_now host may.moves may.claim
             (taken_admitting (λ before x. TakesFrom before x host may.moves (Reclaim may.claim))
             (took_takes host may.moves (Reclaim may.claim)) k.0 u S may.took) fresh live_now
-            (λ o j up h. (let g = may.waited o j up h in (
+            (λ o j up h. (let g = may.waited o j up (here_later (appended (admitting k.0) (after_deciding u S))
+            (admitting_put k.0 (after_deciding u S) (deciding_put u.applied caused none_moved (cause_put u.cause S put)))
+            o.fileset o.moves h) in (
               g.0,
               subst (λ (fs : FilesetId). TookOf v caused host fs (GiveBack g.0)) g.2
                   (taken_admitting (λ before x. TakesOf v before x host g.0.fid.fileset (GiveBack g.0))
@@ -566,7 +582,9 @@ module _ (script : Script) (start : Tree) (firsts : ServerId → ℕ) (real : (v
         fileset = ap (λ (y : AppliedGive). y.fileset) out.2
 
         at_v : home g.fid.fileset ≡ v
-        at_v = ap home fileset ∙ ap (λ (y : Stay). y.server) at
+        at_v =
+            ap home fileset
+            ∙ ap (λ (y : Stay). y.server) (here_is v (acts run) o.fileset o.moves ((all [] run refl).at v).served.put at)
 
         made : Made (own run) g
         made =

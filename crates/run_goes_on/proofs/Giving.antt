@@ -49,6 +49,8 @@ use Rattle.run_goes_on.proofs.Telling.{After, above_before, after, below, decide
 use Rattle.run_goes_on.proofs.Telling.{no_lapse, server_due, server_from, server_may, server_sends, tells_none}
 use Rattle.run_goes_on.proofs.Telling.{whole_cut}
 use Rattle.run_goes_on.specs.Rest.{AllIsOver, IsTakenIn, LapsesIn, NoneIsHeld}
+use Rattle.run_tokens.specs.Unmoved.{StaysPut}
+use Rattle.run_rules.specs.Doings.{after_admitting}
 use Rattle.run_goes_on.specs.Waiting.{GivesAreKnown}
 
 -- # A host that has said Bye makes no give-back any more
@@ -294,6 +296,7 @@ module _ (script : Script) (start : Tree) (firsts : ServerId → ℕ) (real : (v
 
             sent : (mid : List Doing) × ServerTokens v mid (Sent m.host m.epoch m.moves m.body)
                 × (m.epoch ≡ epoch (after_cause t.cause (acts p)))
+                × (StaysPut (after_admitting t (acts p)) → StaysPut mid)
             sent =
                 sent_so v t (acts p)
                 (server_may script start firsts real run meets due over none host live v l p t a.whole at).tokens m i

@@ -27,7 +27,7 @@ use Rattle.run_rules.specs.declared.step.Cause.TheVariants.{End, Evict, Flushed,
 use Rattle.run_rules.specs.declared.step.Cause.TheVariants.{Line, Message as Came, Restart}
 use Rattle.run_rules.specs.declared.step.Step.{Step}
 use Rattle.run_goes_on.proofs.Grown.{in_admitting, in_deciding}
-use Rattle.run_tokens.proofs.Ships.{ships_back}
+use Rattle.run_tokens.proofs.Ships.{ships_back, ships_keep}
 use Rattle.run_goes_on.proofs.Positions.{once_on}
 
 abbrev Reclaims : HostId → List Doing → Doing → Type 0
@@ -171,7 +171,7 @@ module _ (v : ServerId) where
         k.1,
         k.2,
         inr (
-          k.3,
+          ships_keep (λ T. Granted v T k.0) (λ T to n b g. put_keeps T to n b k.0 g) s.shipped (after_sending s S) k.3,
           (λ n. (let z : Reserves s.reserved ≡ BeginsEpoch n.0 = n.1 in cc)),
           (λ gives. elim gives [ inl g ↦ not_took g.1.2.0 | inr g ↦ not_took g.1.2.0 ]),
           (λ goes. elim goes [ inl g ↦ not_took g.2 | inr g ↦ not_took g.0.1 ]),
@@ -180,3 +180,15 @@ module _ (v : ServerId) where
     where
       not_took : {h : HostId} {e n : ℕ} {b : Body} → Reserves s.reserved ≡ Took h e n b → ⊥
       not_took q = cc
+
+      not_put : {to : ServerId} {k : ℕ} {c : Body} {h : HostId} {e n : ℕ} {b : Body} → Puts to k c ≡ Took h e n b → ⊥
+      not_put q = cc
+
+      put_keeps : (T : List Doing) (to : ServerId) (n : ℕ) (b : Body) (u : Token) → Granted v T u
+          → Granted v (Puts to n b ∷ T) u
+      put_keeps T to n b u g = inr (
+        g,
+        (λ z. (let y : Puts to n b ≡ BeginsEpoch z.0 = z.1 in cc)),
+        (λ gives. elim gives [ inl x ↦ not_put x.1.2.0 | inr x ↦ not_put x.1.2.0 ]),
+        (λ goes. elim goes [ inl x ↦ not_put x.2 | inr x ↦ not_put x.0.1 ]),
+      )

@@ -47,7 +47,7 @@ use Rattle.run_rules.specs.declared.step.Step.{Step}
 use Rattle.run_tokens.proofs.Law.{Whole}
 use Rattle.run_tokens.proofs.TokenRun.{works_none}
 use Rattle.run_tokens.proofs.Unmoved.{admitted_put, here_is, here_was}
-use Rattle.run_tokens.proofs.Words.{acts_after, if_host, if_server, own_after, stay_first}
+use Rattle.run_tokens.proofs.Words.{acts_after, if_host, if_server, made_at, own_after, stay_first}
 use Rattle.run_tokens.specs.Unmoved.{StaysPut}
 use Rattle.run_goes_on.proofs.Arriving.{cause_on, due_at, due_of, found, from_one, meets_at, step_on, whole_at}
 use Rattle.run_goes_on.proofs.Doings.{Knows, epoch_after_cause, epoch_step, knows, reclaimed_by, sent_so}
@@ -186,7 +186,9 @@ module _ (script : Script) (start : Tree) (firsts : ServerId → ℕ) (real : (v
   id_v = ((all [] run refl).at v).served.id t issued_end.0 issued_end.1
 
   fid_v : home t.fid.fileset ≡ v
-  fid_v = ap (λ (y : Stay). y.server) (((all [] run refl).at v).served.at t issued_end.0 issued_end.1)
+  fid_v =
+      made_at v (acts run) t.fid.fileset issued_end.0.moves ((all [] run refl).at v).served.put
+      (((all [] run refl).at v).served.at t issued_end.0 issued_end.1)
 
   same_token : (l p : List Step) → appended l p ≡ run → (u : Token) (y : StayStamp) → Issued (acts p) u y
       → u.id ≡ t.id → u ≡ t

@@ -65,7 +65,7 @@ GoesIn v (Change c) k =
     ((c.fileset.0 ≡ 0) × (k ≡ 0)) ⊎ (first_stay c.fileset ≡ record { server = v; moves = k })
 GoesIn v _ k = ⊥
 
-decided_here : (v : ServerId) (S : List Doing) → StaysPut S → (fs : FilesetId) (k : ℕ)
+pub decided_here : (v : ServerId) (S : List Doing) → StaysPut S → (fs : FilesetId) (k : ℕ)
     → ((fs.0 ≡ 0) × (k ≡ 0)) ⊎ (first_stay fs ≡ record { server = v; moves = k }) → IsDecidedHere v S fs k
 decided_here v S put fs k (inl none) = inl none
 decided_here v S put fs k (inr first) = inr (here_was v S fs k put first)

@@ -69,7 +69,8 @@ use Rattle.run_goes_on.proofs.Numbering.{numbers_below, done_said, written_answe
 use Rattle.run_goes_on.proofs.Positions.{Cut, always_back, cut, doings_on, host_steps, own_on, own_run, server_doings}
 use Rattle.run_goes_on.proofs.Queueing.{both_back, one_waits}
 use Rattle.run_goes_on.proofs.Requests.{GoesIn, IsAnswer, IsMeant, answer_ends, answer_goes, answer_resends}
-use Rattle.run_goes_on.proofs.Requests.{asked_here, body_is, decides_not, decides_sent, decides_written, goes_in}
+use Rattle.run_goes_on.proofs.Requests.{asked_here, body_is, decided_here, decides_not, decides_sent}
+use Rattle.run_goes_on.proofs.Requests.{decides_written, goes_in}
 use Rattle.run_goes_on.proofs.Requests.{no_give, old_change, request_of, same_by, same_is, welcome_asks}
 use Rattle.run_goes_on.proofs.Staying.{SendsIt, WasSent, for_itself, goes_there, host_resends, was_sent}
 use Rattle.run_goes_on.proofs.Telling.{decide, learns_by, server_due, server_may, server_sends}
@@ -711,7 +712,8 @@ module _ (script : Script) (start : Tree) (firsts : ServerId → ℕ) (real : (v
           repeats : (d : DoneOf) → d.fileset ≡ c.fileset → d.bring.number ≡ c.number
               → HasWritten S host d ⊎ ((k : ℕ) × SentTo S host (epoch S) k (Done d)) → ⊥
           repeats d files numbers was =
-              let told = due_t.sent.repeats host m.moves c d (subst (TakenNow S t host m.moves) is taken) here files
+              let told = due_t.sent.repeats host m.moves c d (subst (TakenNow S t host m.moves) is taken)
+              (decided_here v S ((all (t ∷ l) p a.whole).at v).served.put c.fileset m.moves here) files
               numbers
               (λ e k o sent its. (let le = done_below e k o sent (its ∙ files) in omega (arith, le, numbers))) was in
               answer_none (Done told.0) told.1
