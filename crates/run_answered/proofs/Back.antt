@@ -1,6 +1,7 @@
 -- What was so of doings before, from what was so after others.
 use Rattle.std.proofs.Common.{ℕ, List, [], ◌∷◌, inl, inr}
 use Rattle.base_types.specs.declared.ids.HostId.{HostId}
+use Rattle.base_types.specs.declared.ids.ServerId.{ServerId}
 use Rattle.message_types.specs.declared.message.Body.{Body}
 use Rattle.message_types.specs.declared.message.Message.{Message}
 use Rattle.token_types.specs.declared.token.Token.{Token}

@@ -36,6 +36,8 @@ use Rattle.run_rules.specs.declared.step.Cause.{Cause}
 use Rattle.run_rules.specs.declared.step.Cause.TheVariants.{End, Evict, Flushed, Freight, Lapse, Line, Message as Came}
 use Rattle.run_rules.specs.declared.step.Cause.TheVariants.{Restart}
 use Rattle.run_rules.specs.Doings.Doing.{Puts}
+use Rattle.run_tokens.proofs.Ships.{once_ships, ships_keep}
+use Rattle.run_rules.specs.Doings.{after_sending}
 use Rattle.run_rules.specs.declared.step.Step.{Step}
 
 -- it was written down; this was taken
@@ -155,8 +157,9 @@ step_asked : (v : ServerId) (s : Step) (S : List Doing)
     → EachInTurn (ServerTokens v) (deciding s.applied) (after_cause s.cause S) → AllAsked S → AllAsked (after_step s S)
 step_asked v s S may old =
     on (Reserves s.reserved) _ (λ w e. cc)
+    (ships_keep AllAsked (λ T to n b was. on (Puts to n b) T (λ w e. cc) was) s.shipped (after_sending s S)
     (asked_sends s.sent (after_admitting s S) (asked_admits s.admitted (after_deciding s S)
-    (asked_decides v s.applied (after_cause s.cause S) may (asked_causes s.cause S old))))
+    (asked_decides v s.applied (after_cause s.cause S) may (asked_causes s.cause S old)))))
 
 pub server_of : (a b : ServerId) → a.0 ≡ b.0 → a ≡ b
 server_of a b e = ap (λ (n : ℕ). record { 0 = n }) e
@@ -245,7 +248,8 @@ module _ (script : Script) (start : Tree) (firsts : ServerId → ℕ) (real : (v
         (back_deciding (λ before a. a ≡ Took h e n b) (λ before w t. cc) (λ before w t. cc) (λ before w t. cc) s.applied
         (after_cause s.cause S)
         (back_admitting (λ before a. a ≡ Took h e n b) (λ before g ts t. cc) s.admitted (after_deciding s S)
-        (back_sending (λ before a. a ≡ Took h e n b) (λ before g d m c t. cc) s.sent (after_admitting s S) o)))
+        (back_sending (λ before a. a ≡ Took h e n b) (λ before g d m c t. cc) s.sent (after_admitting s S)
+        (once_ships (λ before a. a ≡ Took h e n b) (λ T to k c q. cc) s.shipped (after_sending s S) o))))
 
     heard_step : (v : ServerId) (k : Node) (past : List Step) (s : Step) → StepMeets script start firsts k past s
         → (TookIt (doings_of (firsts v) v past) h e n b → Said (steps_of_host h past) v e n b)

@@ -602,7 +602,7 @@ module _ (tree : Tree) (past : List Doing) (x : Exporter) (z : IsAt past tree x)
     module _ (moved : m.moves ≡ 0 → ⊥) where
       still_away : IsStill x.tables.server x.tables.stamp past took_away
       still_away = subst (λ (b : Body). IsStill x.tables.server x.tables.stamp past (Took m.host m.epoch m.moves b))
-          (sym is) (give_still x.tables.server past m.host m.epoch m.moves (inr (inr moved)) g x.tables.stamp)
+          (sym is) (give_still x.tables.server past z.tables.slots m.host m.epoch m.moves (inr (inr moved)) g x.tables.stamp)
 
       onset_away : IsOnset x.tables.server tree past m [] x.tables st
       onset_away = record {

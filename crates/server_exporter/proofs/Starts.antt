@@ -58,6 +58,7 @@ use Rattle.server_decides.specs.Running.{making}
 use Rattle.server_decides.specs.Serving.{IsServed}
 use Rattle.server_exporter.specs.Machines.{IsAt, Keeps}
 use Rattle.server_exporter.specs.declared.exporter.Exporter.{Exporter}
+use Rattle.server_tables.proofs.Still.{StayPut, decided_home}
 use Rattle.server_exporter.proofs.Onsets.{HasBegun, SaysAtOnce}
 
 -- # A message by which nothing is asked
@@ -333,14 +334,14 @@ module _ (server : ServerId) (past : List Doing) (h : HostId) (e n : ℕ) (g : N
       (λ k f w p. let q = p.2.0 in cc) (λ c q. cc)
 
 -- A message that isn't heard: its host isn't live, it is of another epoch, or of a later stay of its fileset.
-module _ (server : ServerId) (past : List Doing) (h : HostId) (e n : ℕ)
+module _ (server : ServerId) (past : List Doing) (put : StayPut server past) (h : HostId) (e n : ℕ)
     (none : (IsLive past h → ⊥) ⊎ ((e ≡ epoch past → ⊥) ⊎ (n ≡ 0 → ⊥))) where
   pub not_taken : (b : Body) (k : HostId) (f : FilesetId) (w : Body) → TakesOf server past (Took h e n b) k f w → ⊥
   not_taken b k f w p =
       let q = same_took h k e (epoch past) n p.0 b w p.2.0 in
       elim none [
         | inl o ↦ o (subst (IsLive past) (sym q.0) p.2.1)
-        | inr o ↦ elim o [ inl r ↦ r q.1 | inr r ↦ r (q.2 ∙ sym (ap (λ (s : Stay). s.moves) p.1)) ]
+        | inr o ↦ elim o [ inl r ↦ r q.1 | inr r ↦ r (q.2 ∙ decided_home server past f p.0 put (inr p.1)) ]
       ]
 
   pub unheard_names : (b : Body) (k : HostId) (i : TokenId) → GivesUp server past (Took h e n b) k i → ⊥
@@ -524,4 +525,4 @@ module _ (tree : Tree) (past : List Doing) (x : Exporter) (z : IsAt past tree x)
     pub kept_away : m.body ≡ Kept g → (m.moves ≡ 0 → ⊥) → IsServed x.tables st
         → HasBegun x.tables.server (Came m) tree past (making x.tables no_draft st)
     kept_away is moved served = silent_still (Kept g) is (kept_plain g)
-        (kept_still x.tables.server past m.host m.epoch m.moves (inr (inr moved)) g x.tables.stamp) served
+        (kept_still x.tables.server past z.tables.slots m.host m.epoch m.moves (inr (inr moved)) g x.tables.stamp) served
