@@ -1,13 +1,14 @@
 -- What the calls of a log leave of its state.
 use Rattle.std.proofs.Common.{◌≡◌, ◌<◌, ◌≤◌, ℕ, List, length, take, drop, refl, sym, ◌∙◌, subst, arith, get_or, Option, Some, None, length-append, ◌⊎◌, inl, inr}
-use Rattle.std.proofs.lemmas.Bool.{cases_lt}
-use Rattle.std.proofs.lemmas.List.{get_or_past, length-take, length-drop}
+use Rattle.std.proofs.lemmas.List.{length-take, length-drop, take-append-le}
 use Rattle.base_types.specs.Image.{Torn}
 use Rattle.base_types.specs.View.{View}
 use Rattle.base_types.specs.Crash.{IsSettled, IsQuiet, ChangesBy}
 use Rattle.disk_layout.specs.Places.{in_place, pages_end, SameFront}
 use Rattle.disk_layout.specs.Half.{IsLog}
+use Rattle.disk_layout.specs.declared.entry.Entry.{Entry}
 use Rattle.disk_layout.proofs.Left.{page_same, between}
+use Rattle.disk_layout.proofs.Pages.{redone_at}
 use Rattle.disk_layout.proofs.Words.{superblock_same}
 use Rattle.disk_log.specs.Append.{SameRest}
 use Rattle.disk_log.specs.Pages.{HoldsPages}
@@ -24,27 +25,19 @@ use Rattle.std.specs.Prelude.{Result, Ok, Err, OnOk, OnErr, IfErr}
 use Rattle.disk_log.proofs.Blocks.{sound_beside}
 use Rattle.disk_log.proofs.Ended.{sound_ended, sound_undone}
 use Rattle.disk_log.proofs.Putting.{sound_put}
-use Rattle.disk_log.proofs.Reading.{sound_read}
+use Rattle.disk_log.proofs.Reading.{place_of, sound_read}
 use Rattle.disk_log.proofs.Room.{open_slot, reserved_part, run_fits, room_begun, room_put, room_closed, room_ended}
-use Rattle.disk_log.proofs.Under.{place_same, on_disk_after}
+use Rattle.disk_log.proofs.Under.{on_disk_after}
 
 -- the same log by other names
 pub sound_as : (tells : Type 0) (view : View) (pages there : List (Option (List ℕ))) (state other : State) → there ≡ pages → other ≡ state → IsSound tells view pages state → IsSound tells view there other
 sound_as tells view pages there state other same is sound =
     subst (λ (l : State). IsSound tells view there l) (sym is) (subst (λ (l : List (Option (List ℕ))). IsSound tells view l state) (sym same) sound)
 
--- a page that is kept has a place
-pub kept_in : (pages : List (Option (List ℕ))) (p : ℕ) (bytes : List ℕ) → get_or pages p None ≡ Some bytes → p < length pages
-kept_in pages p bytes is = by (cases_lt p (length pages))
-  where
-    by : (p < length pages) ⊎ (length pages ≤ p) → p < length pages
-    by (inl lt) = lt
-    by (inr le) = let e = get_or_past pages p None le in absurd (cc)
-
 -- a log that reads as before is as it was
 pub still_sound : (tells : Type 0) (old new : View) (pages : List (Option (List ℕ))) (state : State) → IsQuiet old new → IsSound tells old pages state → IsSound tells new pages state
 still_sound tells old new pages state quiet sound =
-    sound_read tells old new pages pages state quiet refl (λ told. subst (λ (image : List ℕ). HoldsPages pages image) (sym quiet.image) (sound.kept told)) sound
+    sound_read tells old new pages pages state quiet refl (λ told. subst (λ (image : List ℕ). HoldsPages pages (take state.forced state.entries) image) (sym quiet.image) (sound.kept told)) sound
 
 module _ (tells : Type 0) (view : View) (pages : List (Option (List ℕ))) (state : State) (sound : IsSound tells view pages state) where
   pub begun_sound : (slot needed : ℕ) → slot < length state.reservations → get_or state.reservations slot 0 ≡ 0 → needed ≤ free_in state → IsSound tells view pages (begun state slot needed)
@@ -82,7 +75,9 @@ module _ (tells : Type 0) (view : View) (pages : List (Option (List ℕ))) (stat
     blocks = sound.blocks;
     front = sound.front;
     slots = sound.slots;
-    kept = sound.kept;
+    kept = λ told. subst (λ (held : List Entry). HoldsPages pages held view.image)
+        (sym (take-append-le state.forced state.entries (run_of slot (length state.entries) state.puts) sound.steady.forced_le))
+        (sound.kept told);
   }
 
   pub undo_sound : (slot : ℕ) → IsOpen state slot → IsSound tells view pages (closed state slot)
@@ -96,8 +91,9 @@ module _ (tells : Type 0) (view : View) (pages : List (Option (List ℕ))) (stat
     kept = sound.kept;
   }
 
-  pub force_sound : (new : View) → (tells → SameFront view.image new.image) → (tells → SameRest view.image new.image) → (tells → IsLog state.half state.entries new.image) → IsSettled new → IsSound tells new pages (forced_all state)
-  force_sound new front rest log settled = record {
+  pub force_sound : (new : View) (fresh : List (Option (List ℕ))) → length fresh ≡ length pages → (tells → HoldsPages fresh (take (length state.entries) state.entries) new.image) → (tells → SameFront view.image new.image) → (tells → SameRest view.image new.image)
+      → (tells → IsLog state.half state.entries new.image) → IsSettled new → IsSound tells new fresh (forced_all state)
+  force_sound new fresh size kept front rest log settled = record {
     steady = record {
       placed = sound.steady.placed;
       few_pages = sound.steady.few_pages;
@@ -111,8 +107,8 @@ module _ (tells : Type 0) (view : View) (pages : List (Option (List ℕ))) (stat
     many = sound.many;
     blocks = sound.blocks;
     front = λ told. superblock_same state.superblock view.image new.image (front told) (sound.front told);
-    slots = sound.slots;
-    kept = λ told p bytes is. sound.kept told p bytes is ∙ sym (place_same view.image new.image (rest told) p);
+    slots = size ∙ sound.slots;
+    kept = kept;
   }
 
   pub block_sound : (new : View) (at n : ℕ) → pages_end state.half.pages ≤ at → (tells → Torn at n view.image new.image) → ChangesBy (Torn at n) view new → IsSound tells new pages state
@@ -123,12 +119,14 @@ module _ (tells : Type 0) (view : View) (pages : List (Option (List ℕ))) (stat
     blocks = sound.blocks;
     front = λ told. superblock_same state.superblock view.image new.image (λ k lt. (torn told).before k (omega arith)) (sound.front told);
     slots = sound.slots;
-    kept = λ told p bytes is. sound.kept told p bytes is ∙ sym (kept_place told p bytes is);
+    kept = λ told p bytes is.
+        sound.kept told p bytes is
+        ∙ redone_at (take state.forced state.entries) (λ (q : ℕ). in_place view.image q) (λ (q : ℕ). in_place new.image q) p (sym (kept_place told p bytes is));
   }
     where
       kept_place : tells → (p : ℕ) (bytes : List ℕ) → get_or pages p None ≡ Some bytes → in_place new.image p ≡ in_place view.image p
       kept_place told p bytes is =
-          let lt = kept_in pages p bytes is in
+          let lt = place_of pages p bytes is in
           let e = sound.slots in
           page_same state.half.pages p view.image new.image (omega arith) (λ k from below. (torn told).before k (omega arith))
 

@@ -15,15 +15,17 @@ use Rattle.disk_layout.specs.Entry.{entries}
 use Rattle.disk_layout.specs.Half.{IsLog}
 use Rattle.disk_layout.specs.Pages.{redone, recovered, pages_in, firsts, ends_in, AreWhole, HasPages}
 use Rattle.disk_layout.proofs.Entries.{held_entries}
-use Rattle.disk_layout.proofs.Pages.{whole_recovered, redone-append, firsts_all}
+use Rattle.disk_layout.proofs.Pages.{whole_recovered, redone-append, redone_at, firsts_all}
+use Rattle.disk_log.specs.Append.{SameRest}
 use Rattle.disk_log.specs.Pages.{AreKept, HoldsPages}
 use Rattle.disk_log.specs.Puts.{overlaid, page_of, count_of, IsOnDisk}
 use Rattle.disk_log.specs.Contents.{IsLeft}
 use Rattle.disk_log.specs.State.{State, HasNoOpen, HasRoom, IsSound, forced_all}
 use Rattle.disk_log.specs.Switch.{other_of, IsUsed}
 use Rattle.disk_log.specs.declared.put.Put.{Put}
-use Rattle.disk_log.proofs.Calls.{kept_in}
+use Rattle.disk_log.proofs.Reading.{place_of}
 use Rattle.disk_log.proofs.Fresh.{sides_of, used_ahead}
+use Rattle.disk_log.proofs.Under.{place_same}
 
 own_test : (n : ℕ) → (n == n) ≡ true
 own_test n = grind (arith, nat_tests)
@@ -130,8 +132,24 @@ page_before state view none p = ap (λ (puts : List Put). overlaid puts (λ (q :
 
 -- pages that are kept as the entries left them stand in their places
 pub keeps_holding : (pages : List (Option (List ℕ))) (state : State) (view : View) (image : List ℕ) → state.puts ≡ [] → length pages ≡ state.half.pages
-    → ((p : ℕ) → p < state.half.pages → in_place image p ≡ page_of state.entries state.puts view.image p) → AreKept pages (redone state.entries (in_place view.image)) → HoldsPages pages image
-keeps_holding pages state view image none size placed kept p bytes is = kept p bytes is ∙ sym (page_before state view none p) ∙ sym (placed p (let e = kept_in pages p bytes is in omega arith))
+    → ((p : ℕ) → p < state.half.pages → in_place image p ≡ page_of state.entries state.puts view.image p) → AreKept pages (redone state.entries (in_place view.image)) → HoldsPages pages [] image
+keeps_holding pages state view image none size placed kept p bytes is = kept p bytes is ∙ sym (page_before state view none p) ∙ sym (placed p (let e = place_of pages p bytes is in omega arith))
+
+-- where all entries are forced the pages are kept as all of them left them
+pub kept_all : (tells : Type 0) (view : View) (pages : List (Option (List ℕ))) (state : State) → IsSound tells view pages state → state.forced ≡ length state.entries → tells → AreKept pages (redone state.entries (in_place view.image))
+kept_all tells view pages state sound all told =
+    subst (λ (held : List Entry). AreKept pages (redone held (in_place view.image))) (take_all state.forced state.entries (omega (arith, all))) (sound.kept told)
+
+-- so they are once those behind the forced ones were kept, and these were forced, too
+pub kept_forced : (pages : List (Option (List ℕ))) (entries news : List Entry) (forced : ℕ) (old new : List ℕ) → news ≡ drop forced entries → SameRest old new → AreKept pages (redone news (redone (take forced entries) (in_place old)))
+    → HoldsPages pages (take (length entries) entries) new
+kept_forced pages entries news forced old new is same kept p bytes there =
+    kept p bytes there
+    ∙ ap (λ (l : List Entry). redone l (λ (q : ℕ). redone (take forced entries) (in_place old) q) p) is
+    ∙ sym (redone-append (take forced entries) (drop forced entries) (in_place old) p)
+    ∙ ap (λ (l : List Entry). redone l (in_place old) p) (take-append-drop forced entries)
+    ∙ redone_at entries (λ (q : ℕ). in_place old q) (λ (q : ℕ). in_place new q) p (sym (place_same old new same p))
+    ∙ ap (λ (l : List Entry). redone l (in_place new) p) (sym (take_all (length entries) entries (omega arith)))
 
 -- one entry more
 pub keep_more : (pages : List (Option (List ℕ))) (entries : List Entry) (i : ℕ) (default : Entry) (known : ℕ → List ℕ) → i < length entries
@@ -146,7 +164,7 @@ kept_new pages page t old new known kept p bytes is = by (page == p) refl
     by : (here : Bool) → (page == p) ≡ here → bytes ≡ (if page == p then new else known p)
     by true e =
         let same : p ≡ page = grind (arith, nat_tests, e) in
-        let lt : p < length pages = let f = kept_in (set pages page (Some new)) p bytes is in let g = length-set pages page (Some new) in omega arith in
+        let lt : p < length pages = let f = place_of (set pages page (Some new)) p bytes is in let g = length-set pages page (Some new) in omega arith in
         let there : Some new ≡ Some bytes = sym (get_or-set_at pages page p (Some new) None same (omega arith)) ∙ is in
         let equal : new ≡ bytes = cc in
         sym equal ∙ (λ j. if sym e j then new else known p)

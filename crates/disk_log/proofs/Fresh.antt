@@ -110,7 +110,7 @@ get_or-same (suc n) (suc k) x = get_or-same n k x
 
 -- a log without entries is sound
 pub emptied_sound : (tells : Type 0) (view : View) (superblock : Superblock) (half : Half) (pages : List (Option (List ℕ))) → (half.start ≡ half_start 0) ⊎ (half.start ≡ half_start 1) → superblock.blocks ≤ 66560
-    → half.pages ≡ pages_of superblock.blocks → length pages ≡ half.pages → (tells → HoldsPages pages view.image) → (tells → IsSuperblock superblock view.image) → (tells → IsLog half [] view.image) → IsSettled view
+    → half.pages ≡ pages_of superblock.blocks → length pages ≡ half.pages → (tells → HoldsPages pages [] view.image) → (tells → IsSuperblock superblock view.image) → (tells → IsLog half [] view.image) → IsSettled view
     → IsSound tells view pages (fresh_state superblock half)
 emptied_sound tells view superblock half pages placed few many size kept front log settled = record {
   steady = record {

@@ -73,9 +73,9 @@ pub page_put : (entries : List Entry) (put : Put) (puts : List Put) (image : Lis
 unfolding page_of
 page_put entries put puts image p = overlaid_put puts put (λ (q : ℕ). redone entries (in_place image) q) p
 
-pub page_under : (entries : List Entry) (image out mid : List ℕ) (p : ℕ) → out ≡ in_place image p → mid ≡ redone entries (λ (q : ℕ). out) p → mid ≡ ended_page entries image p
+pub page_under : (entries : List Entry) (image mid : List ℕ) (p : ℕ) → mid ≡ redone entries (in_place image) p → mid ≡ ended_page entries image p
 unfolding ended_page
-page_under entries image out mid p read is = is ∙ redone_at entries (λ (q : ℕ). out) (in_place image) p read
+page_under entries image mid p is = is
 
 on_disk_quiet : (old new : View) (half : Half) (entries : List Entry) (forced : ℕ) (puts : List Put) → IsQuiet old new → IsOnDisk old half entries forced puts → IsOnDisk new half entries forced puts
 on_disk_quiet old new half entries forced puts quiet on_disk = record {
@@ -124,10 +124,9 @@ sound_as tells view half half_2 entries entries_2 forced forced_2 puts puts_2 e 
     let third = subst (λ (l : ℕ). IsSteady tells view half_2 entries_2 l puts) (sym g) second in
     subst (λ (l : List Put). IsSteady tells view half_2 entries_2 forced_2 l) (sym h) third
 
--- a page is read, redone and laid under what the ended transactions left
-pub settled_read : (entries firsts rests : List Entry) (forced : ℕ) (image out mid last : List ℕ) (p k : ℕ) → firsts ≡ take forced entries → rests ≡ drop forced entries → out ≡ in_place image p → mid ≡ redone firsts (λ (q : ℕ). out) p
-    → get_or last k 0 ≡ or_of rests p k (get_or mid k 0) → get_or last k 0 ≡ settled_byte entries forced image p k
+-- a page as the last force left it is laid under what the ended transactions left
+pub settled_read : (entries held rests : List Entry) (forced : ℕ) (image out last : List ℕ) (p k : ℕ) → held ≡ take forced entries → rests ≡ drop forced entries → out ≡ redone held (in_place image) p
+    → get_or last k 0 ≡ or_of rests p k (get_or out k 0) → get_or last k 0 ≡ settled_byte entries forced image p k
 unfolding settled_byte
-settled_read entries firsts rests forced image out mid last p k first rest read redo last_is =
-    last_is ∙ (λ j. or_of (rest j) p k (get_or (redo j) k 0)) ∙ (λ j. or_of (drop forced entries) p k (get_or (redone (first j) (λ (q : ℕ). out) p) k 0))
-    ∙ (λ j. or_of (drop forced entries) p k (get_or (redone_at (take forced entries) (λ (q : ℕ). out) (in_place image) p read j) k 0))
+settled_read entries held rests forced image out last p k first rest read last_is =
+    last_is ∙ (λ j. or_of (rest j) p k (get_or (read j) k 0)) ∙ (λ j. or_of (drop forced entries) p k (get_or (redone (first j) (in_place image) p) k 0))

@@ -18,7 +18,7 @@ use Rattle.std.specs.BTreeMap.{is_at}
 use Rattle.std.specs.Cmp.{unsigned_tied}
 use Rattle.disk_log.specs.Recovered.{blank_page, AreEnds}
 use Rattle.disk_log.proofs.Fresh.{get_or-same}
-use Rattle.disk_log.proofs.Calls.{kept_in}
+use Rattle.disk_log.proofs.Reading.{place_of}
 
 or_false : (b : Bool) → (b || false) ≡ b
 or_false true = refl
@@ -124,7 +124,7 @@ pub set_still : (table : List (Option (List ℕ))) (page p : ℕ) (new : List �
 set_still table page p new some = by ((page == p) || false) refl
   where
     there : (o : Option (List ℕ)) → get_or table p None ≡ o → IsSome o → p < length table
-    there (Some bytes) is some = kept_in table p bytes is
+    there (Some bytes) is some = place_of table p bytes is
     there None is some = absurd (grind (arith, some))
 
     by : (b : Bool) → ((page == p) || false) ≡ b → IsSome (get_or (set table page (Some new)) p None)
@@ -139,7 +139,7 @@ module _ (all rest : List Entry) (t page : ℕ) (old new : List ℕ) (known : �
       by : (here : Bool) → (page == p) ≡ here → bytes ≡ (if (page == p) && not (is_ended t all) then old else undone all rest known p)
       by true e =
           let same : p ≡ page = grind (arith, nat_tests, e) in
-          let lt : p < length table = let f = kept_in (set table page (Some old)) p bytes is in let g = length-set table page (Some old) in omega arith in
+          let lt : p < length table = let f = place_of (set table page (Some old)) p bytes is in let g = length-set table page (Some old) in omega arith in
           let there : Some old ≡ Some bytes = sym (get_or-set_at table page p (Some old) None same (omega arith)) ∙ is in
           let equal : old ≡ bytes = cc in
           sym equal ∙ (λ j. if sym e j && not (sym unended j) then old else undone all rest known p)

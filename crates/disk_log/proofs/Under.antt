@@ -12,7 +12,7 @@ use Rattle.disk_layout.specs.declared.half.Half.{Half}
 use Rattle.disk_layout.specs.Places.{page_start, in_place}
 use Rattle.disk_layout.specs.Half.{IsLog}
 use Rattle.disk_layout.specs.Pages.{redone, AreWhole, HasWhole}
-use Rattle.disk_layout.proofs.Pages.{redone_at, whole-append}
+use Rattle.disk_layout.proofs.Pages.{redone-append, redone_at, whole-append}
 use Rattle.disk_log.specs.Append.{SameRest}
 use Rattle.disk_log.specs.Puts.{overlaid, page_of, ArePuts, IsOnDisk}
 use Rattle.disk_log.specs.declared.put.Put.{Put}
@@ -27,11 +27,19 @@ pub overlaid_at : (puts : List Put) (a b : ℕ → List ℕ) (p : ℕ) → a p �
 overlaid_at [] a b p same = same
 overlaid_at (put ∷ puts) a b p same = λ j. if put.page == p then put.new else overlaid_at puts a b p same j
 
--- a page is read, redone and overlaid
-pub page_read : (entries : List Entry) (puts : List Put) (image out mid : List ℕ) (p : ℕ) → out ≡ in_place image p → mid ≡ redone entries (λ (q : ℕ). out) p → overlaid puts (λ (q : ℕ). mid) p ≡ page_of entries puts image p
+-- a page as the first entries left it is redone by the others
+pub over_forced : (entries held news : List Entry) (forced : ℕ) (image out mid : List ℕ) (p : ℕ) → held ≡ take forced entries → news ≡ drop forced entries → out ≡ redone held (in_place image) p → mid ≡ redone news (λ (q : ℕ). out) p
+    → mid ≡ redone entries (in_place image) p
+over_forced entries held news forced image out mid p first rest read is =
+    is ∙ redone_at news (λ (q : ℕ). out) (λ (q : ℕ). redone held (in_place image) q) p read
+    ∙ (λ j. redone (rest j) (λ (q : ℕ). redone (first j) (in_place image) q) p)
+    ∙ sym (redone-append (take forced entries) (drop forced entries) (in_place image) p)
+    ∙ ap (λ (l : List Entry). redone l (in_place image) p) (take-append-drop forced entries)
+
+-- and overlaid
+pub page_read : (entries : List Entry) (puts : List Put) (image mid : List ℕ) (p : ℕ) → mid ≡ redone entries (in_place image) p → overlaid puts (λ (q : ℕ). mid) p ≡ page_of entries puts image p
 unfolding page_of
-page_read entries puts image out mid p read is =
-    overlaid_at puts (λ (q : ℕ). mid) (λ (q : ℕ). redone entries (in_place image) q) p (is ∙ redone_at entries (λ (q : ℕ). out) (in_place image) p read)
+page_read entries puts image mid p is = overlaid_at puts (λ (q : ℕ). mid) (λ (q : ℕ). redone entries (in_place image) q) p is
 
 pub place_same : (old new : List ℕ) → SameRest old new → (q : ℕ) → in_place new q ≡ in_place old q
 place_same old new same q = bytes_from-same new old (page_start q) 512 (λ k from below. same k (omega arith))

@@ -16,6 +16,7 @@ use Rattle.std.specs.Prelude.{
   length,
   set,
   sum,
+  take,
   true,
   replicate,
   Option,
@@ -122,7 +123,8 @@ pub record IsSound (tells : Type 0) (view : View) (pages : List (Option (List �
   pub blocks : state.superblock.blocks ≤ 66560
   pub front : tells → IsSuperblock state.superblock view.image
   pub slots : length pages ≡ state.half.pages
-  pub kept : tells → HoldsPages pages view.image
+  -- the pages that were read are kept as the last force left them
+  pub kept : tells → HoldsPages pages (take state.forced state.entries) view.image
 
 -- a transaction is the only open one, and reserves so many entries
 pub record IsOnly (state : State) (slot reserved : ℕ) : Type 0 where

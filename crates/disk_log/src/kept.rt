@@ -23,7 +23,7 @@ pub struct Tx {
 
 // The entries of the used half, and behind the first `forced` of them those that ended since the last force; what the
 // open transactions put; the entries that they reserved, by slot, and in all; and the pages that were read, each as
-// it stands in its place.
+// the last force left it.
 #[derive(Drop)]
 pub struct Kept {
     pub superblock: Superblock,
@@ -159,17 +159,13 @@ impl Kept {
         release(&mut self.reservations, &mut self.reserved, tx.slot);
     }
 
-    // Starts anew in a half that has no entries, where no transaction is open. The pages that the entries named stand
-    // in their places.
+    // Starts anew in a half that has no entries, where no transaction is open.
     pub fn restart(&mut self, half: Half)
         requires room { HasRoom (state_in self.old) }
         requires none_open { HasNoOpen (state_in self.old) }
         ensures state { state_in self.new ≡ fresh_state self.old.superblock half }
-        ensures size { length self.new.pages ≡ length self.old.pages }
-        ensures pages { (known : ℕ → List ℕ)
-            → AreKept self.old.pages known → AreKept self.new.pages (redone self.old.entries.items known) }
+        ensures pages { self.new.pages ≡ self.old.pages }
     {
-        keep(&mut self.pages, &self.entries);
         self.half = half;
         self.entries.clear();
         self.forced = 0;

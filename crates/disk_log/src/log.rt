@@ -12,7 +12,7 @@ use crate::checkpoint::{checkpoint, next_half};
 use crate::fault::LogFault;
 use crate::fetch::fetch;
 use crate::format::formatted;
-use crate::kept::{Kept, Tx};
+use crate::kept::{Kept, Tx, keep};
 use crate::mount::mounted;
 use crate::over::{or_all, overlay, redo};
 use crate::put::Put;
@@ -176,8 +176,14 @@ impl<D: Disk> Log<D> {
         ensures only { IfErr result (λ fault. fault ≡ DiskFailed) }
     {
         let mut bytes = [0; PAGE];
-        fetch(&mut self.disk, &mut self.kept.pages, page, &mut bytes)?;
-        redo(&self.kept.entries, page, &mut bytes);
+        fetch(
+            &mut self.disk,
+            &mut self.kept.pages,
+            &self.kept.entries[..self.kept.forced],
+            page,
+            &mut bytes,
+        )?;
+        redo(&self.kept.entries[self.kept.forced..], page, &mut bytes);
         overlay(&self.kept.puts, page, &mut bytes);
         out.copy_from_slice(&bytes);
         Ok(())
@@ -198,8 +204,13 @@ impl<D: Disk> Log<D> {
         ensures only { IfErr result (λ fault. fault ≡ DiskFailed) }
     {
         let mut bytes = [0; PAGE];
-        fetch(&mut self.disk, &mut self.kept.pages, page, &mut bytes)?;
-        redo(&self.kept.entries[..self.kept.forced], page, &mut bytes);
+        fetch(
+            &mut self.disk,
+            &mut self.kept.pages,
+            &self.kept.entries[..self.kept.forced],
+            page,
+            &mut bytes,
+        )?;
         or_all(&self.kept.entries[self.kept.forced..], page, &mut bytes);
         out.copy_from_slice(&bytes);
         Ok(())
@@ -245,8 +256,14 @@ impl<D: Disk> Log<D> {
             (λ fault. IsDiskOrMemory fault (D.view (disk_of self.old)) (D.view (disk_of self.new))) }
     {
         let mut old = [0; PAGE];
-        fetch(&mut self.disk, &mut self.kept.pages, page, &mut old)?;
-        redo(&self.kept.entries, page, &mut old);
+        fetch(
+            &mut self.disk,
+            &mut self.kept.pages,
+            &self.kept.entries[..self.kept.forced],
+            page,
+            &mut old,
+        )?;
+        redo(&self.kept.entries[self.kept.forced..], page, &mut old);
         let mut bytes = [0; PAGE];
         bytes.copy_from_slice(new);
         self.kept.put(Put {
@@ -308,6 +325,7 @@ impl<D: Disk> Log<D> {
             &self.kept.entries,
             self.kept.forced,
         )?;
+        keep(&mut self.kept.pages, &self.kept.entries[self.kept.forced..]);
         self.kept.forced = self.kept.entries.len();
         Ok(())
     }

@@ -1,5 +1,6 @@
 pub mod Lists
 pub mod Writing
+pub mod Padding
 pub mod Ordering
 pub mod Filing
 pub mod Seeing

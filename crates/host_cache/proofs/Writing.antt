@@ -13,7 +13,7 @@ use Rattle.base_types.specs.Spans.{has_byte}
 use Rattle.base_types.specs.declared.span.Span.{Span}
 use Rattle.tree_calls.specs.declared.part.Piece.{Piece}
 use Rattle.host_cache.proofs.Lists.{drop_here}
-use Rattle.host_cache.specs.Bytes.{is_within, told_byte, IsPut, IsCleared, IsLaidOver, IsLaid}
+use Rattle.host_cache.specs.Bytes.{is_within, told_byte, IsPut, IsLaidOver, IsLaid}
 
 pub within : (from count at : ℕ) → from ≤ at → at < from + count → is_within from count at ≡ true
 within from count at low high = grind (arith, nat_tests)
@@ -81,44 +81,12 @@ module _ (at : ℕ) (piece old : List ℕ) (fits : at + length piece ≤ length 
       let e : put_mid at m old new ≡ written = λ j. put_mid at (many j) old (same j) in
       record { len = ap (λ (l : List ℕ). length l) e ∙ size; each = λ k. ap (λ (l : List ℕ). byte_at l k) e ∙ each k }
 
-zeros : (n k : ℕ) → byte_at (replicate n 0) k ≡ 0
+pub zeros : (n k : ℕ) → byte_at (replicate n 0) k ≡ 0
 zeros zero k = refl
 zeros (suc n) zero = refl
 zeros (suc n) (suc k) = zeros n k
 
-zeros_many : (n : ℕ) → length {A = ℕ} (replicate n 0) ≡ n
-zeros_many zero = refl
-zeros_many (suc n) = ap (λ (m : ℕ). suc m) (zeros_many n)
-
--- a span as a place and a count
-span_within : (span : Span) (at : ℕ) → span.from ≤ span.to →
-    is_within span.from (span.to - span.from) at ≡ has_byte span at
-span_within span at ordered = let e : span.from + (span.to - span.from) ≡ span.to = omega arith in
-    ap (λ (m : ℕ). nat_le span.from at && nat_lt at m) e
-
-cleared_byte : (b : Bool) (x y : ℕ) → x ≡ 0 → (if b then x else y) ≡ (if b then 0 else y)
-cleared_byte b x y e = ap (λ (n : ℕ). if b then n else y) e
-
--- zeros that were written
-pub is_cleared : (span : Span) (old : List ℕ) → span.to ≤ length old → (m : ℕ) (new : List ℕ) →
-    m ≡ span.to - span.from → new ≡ replicate (span.to - span.from) 0 →
-    IsCleared span old (put_mid span.from m old new)
-is_cleared span old room m new many same =
-    let n = span.to - span.from in
-    let ordered : span.from ≤ span.to = span.ordered in
-    let size = zeros_many n in
-    let put = is_put span.from (replicate n 0) old (omega (arith, size, ordered)) m new (many ∙ sym size) same in
-    record {
-      len = put.len;
-      each = λ at. put.each at
-          ∙ ap (λ (k : ℕ). if is_within span.from k at then byte_at (replicate n 0) (at - span.from) else byte_at old
-          at) size
-          ∙ cleared_byte (is_within span.from n at) (byte_at (replicate n 0) (at - span.from)) (byte_at old at)
-          (zeros n (at - span.from))
-          ∙ ap (λ b. if b then 0 else byte_at old at) (span_within span at ordered);
-    }
-
-bool_same : (b c : Bool) → (b ≡ true → c ≡ true) → (c ≡ true → b ≡ true) → b ≡ c
+pub bool_same : (b c : Bool) → (b ≡ true → c ≡ true) → (c ≡ true → b ≡ true) → b ≡ c
 bool_same true c f g = sym (f refl)
 bool_same false true f g = g refl
 bool_same false false f g = refl

@@ -1,9 +1,14 @@
 -- Bytes of a file from its first on; all behind them are zero.
-use Rattle.std.specs.Prelude.{◌≡◌, ℕ, ◌+◌, ◌-◌, Bool, ◌&&◌, nat_le, nat_lt, if◌then◌else◌, List, [], ◌∷◌, length}
+use Rattle.std.specs.Prelude.{◌≡◌, ℕ, ◌+◌, ◌-◌, Bool, ◌&&◌, nat_le, nat_lt, if◌then◌else◌}
+use Rattle.std.specs.Prelude.{List, [], ◌∷◌, ◌++◌, length, replicate}
 use Rattle.base_types.specs.Image.{byte_at}
 use Rattle.base_types.specs.Spans.{has_byte}
 use Rattle.base_types.specs.declared.span.Span.{Span}
 use Rattle.tree_calls.specs.declared.part.Piece.{Piece}
+
+-- with zeros behind them, so many in all
+abbrev pub padded : ℕ → List ℕ → List ℕ
+padded room bytes = bytes ++ replicate (room - length bytes) 0
 
 -- whether a place is one of so many from another on
 abbrev pub is_within : ℕ → ℕ → ℕ → Bool

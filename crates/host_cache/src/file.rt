@@ -7,7 +7,7 @@ ghost use Rattle.host_cache.specs.Files.{nothing, HasRoom, Grows, Learns, Writes
 ghost use Rattle.host_cache.specs.Files.{with_status, with_entries, without_token};
 ghost use Rattle.host_cache.specs.Holding.{helpers_first, helps_cover, kind_has_byte, is_status};
 
-use crate::bytes;
+use crate::bytes::{self, Bytes};
 use crate::held::{bring_helpers, kind_has_byte};
 use base_types::{Fid, Items, NoMemory, Plain, Span};
 use std::alloc::Global;
@@ -51,7 +51,7 @@ pub(crate) struct File {
     tokens: Vec<Token>,
     status: Option<Status>,
     entries: Items<DirEntry>,
-    bytes: Vec<u8>,
+    bytes: Bytes,
 }
 
 impl Model for File {
@@ -63,7 +63,7 @@ impl Model for File {
       tokens = f.tokens.items;
       status = f.status;
       entries = f.entries;
-      bytes = f.bytes.items;
+      bytes = f.bytes;
     } };
 }
 
@@ -76,7 +76,7 @@ impl File {
             tokens: Vec::new(alloc),
             status: None,
             entries: Items::new(alloc),
-            bytes: Vec::new(alloc),
+            bytes: Bytes::new(alloc),
         }
     }
 
@@ -115,7 +115,7 @@ impl File {
         requires { at + length out.old ≤ length self.now.bytes }
         ensures { out.new ≡ take (length out.old) (drop at self.now.bytes) }
     {
-        bytes::read(self.bytes.as_slice(), at, out);
+        bytes::read(&self.bytes, at, out);
     }
 
     /// Makes room for the bytes of a token of this kind. On an error nothing changes.
@@ -128,7 +128,7 @@ impl File {
         };
         let to = span.to as usize;
         if self.bytes.len() < to {
-            self.bytes.resize(to, 0)?;
+            self.bytes.grow(to)?;
         }
         Ok(())
     }
@@ -187,7 +187,7 @@ impl File {
         ensures err { OnErr result (self.new ≡ self.old) }
     {
         self.put_told(token, span, entries)?;
-        bytes::lay(self.bytes.as_mut_slice(), span, pieces);
+        bytes::lay(&mut self.bytes, span, pieces);
         Ok(())
     }
 
@@ -219,7 +219,7 @@ impl File {
         requires { at + length bytes.now ≤ length self.old.bytes }
         ensures { Writes at bytes.now self.old self.new }
     {
-        bytes::put(self.bytes.as_mut_slice(), at, bytes);
+        bytes::put(&mut self.bytes, at, bytes);
     }
 
     /// Makes this the length in the status, where there is one.

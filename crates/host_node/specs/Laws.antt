@@ -1,7 +1,8 @@
 -- What a host's node owes whoever drives it, whatever it does.
-use Rattle.std.proofs.Common.{◌≡◌, refl}
+use Rattle.std.proofs.Common.{◌≡◌, List, refl}
 use Rattle.hub_node.proofs.Keeping.{front_kept, may_hand_in}
-use Rattle.hub_node.specs.Nodes.{HandsIn}
+use Rattle.hub_laws.specs.Keeping.{Round}
+use Rattle.hub_node.specs.Nodes.{HandsIn, Part}
 use Rattle.hub_node.specs.declared.node.NodeFault.{NodeFault}
 use Rattle.hub_node.specs.declared.node.NodeFault.TheVariants.{Memory}
 use Rattle.host_node.specs.Standing.{Stands}
@@ -15,6 +16,10 @@ hands_in n part past made st =
 -- memory alone runs out
 abbrev pub LacksMemory : NodeFault → HostNode → HostNode → Type 0
 LacksMemory fault old new = fault ≡ Memory
+
+-- of a host where something failed nothing is said
+abbrev pub Breaks : Part → HostNode → List Round → Type 0
+Breaks part n past = Unit {0}
 
 pub lacks : (a : HostNode) → LacksMemory Memory a a
 lacks a = refl

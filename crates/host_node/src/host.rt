@@ -432,7 +432,7 @@ fn deed_step(manager: &mut Manager, line: &Line) -> Result<Step, NoMemory>
 impl<'a> Node for HostNode<'a> {
     ghost use Rattle.host_node.specs.Standing.{Stands};
     ghost use Rattle.hub_node.specs.Lines.{next_number};
-    ghost use Rattle.host_node.specs.Laws.{LacksMemory, hands_in, lacks};
+    ghost use Rattle.host_node.specs.Laws.{Breaks, LacksMemory, hands_in, lacks};
 
     ghost tells = { Unit {0} };
 
@@ -441,6 +441,8 @@ impl<'a> Node for HostNode<'a> {
     ghost stays = { λ old new. Unit {0} };
 
     ghost failed = { LacksMemory };
+
+    ghost broken = { Breaks };
 
     ghost next = { λ n. next_number n.lines };
 

@@ -1,5 +1,6 @@
 -- A hub that was closed with the passes of nodes that are through, or that came to no end.
-use Rattle.std.proofs.Common.{◌≡◌, ⊎_elim, inl, inr, ℕ, ◌<◌, List, [], ◌∷◌, map, length, get_or, refl, sym, ap, ◌∙◌}
+use Rattle.std.proofs.Common.{◌≡◌, ◌++◌, Option, None, Some, ⊎_elim, inl, inr, ℕ, ◌<◌, List, [], ◌∷◌, map, length}
+use Rattle.std.proofs.Common.{get_or, refl, sym, ap, ◌∙◌}
 use Rattle.std.proofs.Common.{subst, arith}
 use Rattle.base_types.specs.declared.ids.Node.{Node}
 use Rattle.base_types.specs.declared.ids.Node.TheVariants.{Host, Server}
@@ -8,13 +9,17 @@ use Rattle.script_lines.specs.declared.script.Script.{Script}
 use Rattle.hub_board.specs.Hubs.{nodes_of}
 use Rattle.hub_board.specs.Turning.{steps_of}
 use Rattle.hub_board.specs.declared.given.Turn.{Turn}
+use Rattle.message_types.specs.declared.message.Message.{Message}
 use Rattle.run_rules.specs.Past.{Always, In}
+use Rattle.run_rules.specs.Plans.{sent_in}
 use Rattle.run_rules.specs.Runs.{IsDutiful, IsRun, past_of}
 use Rattle.hub_turns.specs.Meetings.{HasEnded}
 use Rattle.hub_turns.specs.Views.{HubView, NodeView}
 use Rattle.run_rules.specs.declared.journal.Journal.{Journal}
 use Rattle.run_rules.specs.declared.step.Step.{Step}
-use Rattle.hub_laws.specs.Keeping.{Round, steps_in}
+use Rattle.hub_board.specs.declared.given.Given.{Given}
+use Rattle.hub_board.specs.declared.given.Given.TheVariants.{Begun, Lapse, Message as Came, Raised}
+use Rattle.hub_laws.specs.Keeping.{Round, message_in, messages_given, steps_in}
 use Rattle.hub_laws.specs.Closings.{AreApart, HasHeld, HasKept, HasMade, IsClosed, KeepsOn}
 use Rattle.hub_laws.proofs.Apart.{nodes_are_apart}
 use Rattle.hub_laws.proofs.Closing.{closed_has_held}
@@ -59,9 +64,10 @@ module _ {N : Type 0} (tells : Type 0) (stands : Part → N → List Round → L
       }
 
   -- and with those of nodes that have stood there
-  pub sat_stood : (stays : N → N → Type 0) (failed : NodeFault → N → N → Type 0) (pass : NodeView) (n : N)
-      (left : List Step) → HasStood stands stays failed run hub pass n left → IsSat tells run hub pass
-  sat_stood stays failed pass n left h =
+  pub sat_stood : (stays : N → N → Type 0) (failed : NodeFault → N → N → Type 0)
+      (broken : Part → N → List Round → Type 0) (pass : NodeView) (n : N)
+      (left : List Step) → HasStood stands stays failed broken run hub pass n left → IsSat tells run hub pass
+  sat_stood stays failed broken pass n left h =
       let part : Part = part_of run pass.node in
       let may : MayHandIn tells part h.past h.handed = hands_in h.before part h.past h.handed h.stood in record {
         rounds = h.rounds;
@@ -69,6 +75,23 @@ module _ {N : Type 0} (tells : Type 0) (stands : Part → N → List Round → L
         keeps = h.keeps;
         meets = (λ knows. subst (λ (l : List Step). Always (OwnMeets run pass.node) l) (sym h.whole) (may.meets knows));
       }
+
+-- a message that was given was so in a round
+given_by : (rounds : List Round) (m : Message) → In m (messages_given rounds)
+    → (r : Round) × In r rounds × (r.given ≡ Some (Came m))
+given_by [] m i = absurd i
+given_by (r ∷ rounds) m i =
+    by r.given refl i (λ j. let before = given_by rounds m j in (before.0, inr before.1, before.2))
+  where
+    by : (g : Option Given) → r.given ≡ g → In m (message_in g ++ messages_given rounds)
+        → (In m (messages_given rounds) → (s : Round) × In s (r ∷ rounds) × (s.given ≡ Some (Came m)))
+        → (s : Round) × In s (r ∷ rounds) × (s.given ≡ Some (Came m))
+    by None e j later = later j
+    by (Some Begun) e j later = later j
+    by (Some (Raised flag)) e j later = later j
+    by (Some Lapse) e j later = later j
+    by (Some (Came k)) e (inl is) later = (r, inl refl, e ∙ ap (λ (x : Message). Some (Came x)) (sym is))
+    by (Some (Came k)) e (inr j) later = later j
 
 module _ {N : Type 0} (tells : Type 0) (stands : Part → N → List Round → List Step → Type 0)
     (script : Script) (start : Tree) (epochs : List ℕ) (can : CanStart script start epochs)
@@ -229,23 +252,33 @@ module _ {N : Type 0} (tells : Type 0) (stands : Part → N → List Round → L
         }
 
       -- nodes that came to no end
-      module _ (stays : N → N → Type 0) (failed : NodeFault → N → N → Type 0)
-          (stood : (s : Seat N) → In s seats → HasStood stands stays failed run hub s.pass s.node s.steps.steps) where
+      module _ (stays : N → N → Type 0) (failed : NodeFault → N → N → Type 0) (broken : Part → N → List Round → Type 0)
+          (stood : (s : Seat N) → In s seats → HasStood stands stays failed broken run hub s.pass s.node
+          s.steps.steps) where
         come : (s : Seat N) (rounds : List Round) (before : N)
-            → HasComeWith stands stays failed (part_of run s.pass.node) rounds before s.node s.steps.steps
-            → HasComeTo stands stays failed (part_of run s.pass.node) rounds before s.node
+            → HasComeWith stands stays failed broken (part_of run s.pass.node) rounds before s.node s.steps.steps
+            → HasComeTo stands stays failed broken (part_of run s.pass.node) rounds before s.node
         come s rounds before since = ⊎_elim
             (λ (x : stands (part_of run s.pass.node) s.node rounds s.steps.steps × stays before s.node).
             inl (s.steps.steps, x.0, x.1))
-            (λ (x : (fault : NodeFault) × failed fault before s.node). inr x)
+            (λ (x : ((fault : NodeFault) × failed fault before s.node) × broken (part_of run s.pass.node) s.node
+            rounds).
+            inr x)
             since
 
+        sent : (s : Seat N) → In s seats → (rounds : List Round) → HasMade hub rounds s.pass → (m : Message)
+            → In m (messages_given rounds) → In m (sent_in (past_of journal))
+        sent s i rounds made m j =
+            let by = given_by rounds m j in
+            (held.whole s.pass (map_in pass_of s seats i)).sent rounds made by.0 by.1 m by.2
+
         stood_after : (s : Seat N) → In s seats
-            → HasStoodAfter stands stays failed run journal s.pass.node s.node
+            → HasStoodAfter stands stays failed broken run journal s.pass.node s.node
         stood_after s i =
             let h = stood s i in record {
               rounds = h.rounds;
               own = own_is s i h.rounds h.made;
+              sent = sent s i h.rounds h.made;
               before = h.before;
               past = h.past;
               handed = h.handed;
@@ -254,7 +287,7 @@ module _ {N : Type 0} (tells : Type 0) (stands : Part → N → List Round → L
               since = come s h.rounds h.before h.since;
             }
 
-        pub stopped : HasStopped tells stands stays failed script start epochs nodes journal
+        pub stopped : HasStopped tells stands stays failed broken script start epochs nodes journal
         stopped = record {
           starts = starts;
           epochs_are = epochs_are;
@@ -263,7 +296,7 @@ module _ {N : Type 0} (tells : Type 0) (stands : Part → N → List Round → L
           run = run_is;
           dutiful = dutiful_is;
           count = size ∙ many;
-          stood = each_place (HasStoodAfter stands stays failed run journal) stood_after;
+          stood = each_place (HasStoodAfter stands stays failed broken run journal) stood_after;
         }
 
         -- and what is left of them
@@ -275,7 +308,8 @@ module _ {N : Type 0} (tells : Type 0) (stands : Part → N → List Round → L
               stands_on = ⊎_elim
                   (λ (x : stands (part_of run s.pass.node) s.node h.rounds s.steps.steps × stays h.before s.node).
                   inl x.0)
-                  (λ (x : (fault : NodeFault) × failed fault h.before s.node). inr (x.0, (h.before, x.1)))
+                  (λ (x : ((fault : NodeFault) × failed fault h.before s.node)
+                  × broken (part_of run s.pass.node) s.node h.rounds). inr (x.0.0, (h.before, x.0.1)))
                   h.since;
             }
 

@@ -72,15 +72,16 @@ module _ {N : Type 0} where
 
   -- what has become of seats has become of their nodes
   module _ (stands : Part → N → List Round → List Step → Type 0) (stays : N → N → Type 0)
-      (failed : NodeFault → N → N → Type 0) (next : N → Option ℕ) (hub : HubView) where
+      (failed : NodeFault → N → N → Type 0) (broken : Part → N → List Round → Type 0) (next : N → Option ℕ)
+      (hub : HubView) where
     -- of those that are through it stays
-    pub stayed_of : (olds news : List (Seat N)) → PairsAt (HasGone stands stays failed hub) olds news
+    pub stayed_of : (olds news : List (Seat N)) → PairsAt (HasGone stands stays failed broken hub) olds news
         → EachAt (λ (s : Seat N). s.fault ≡ None) news → PairsAt stays (map node_of olds) (map node_of news)
     stayed_of olds news h well =
         let n = h.count in
         pairs_map node_of stays olds news h.count (λ i d lt. (h.each i d lt).stayed (well i d (omega (arith, lt, n))))
 
-    pub became_of : (olds news : List (Seat N)) → PairsAt (HasGone stands stays failed hub) olds news
+    pub became_of : (olds news : List (Seat N)) → PairsAt (HasGone stands stays failed broken hub) olds news
         → EachAt (λ (s : Seat N). s.fault ≡ None) olds
         → PairsAt (HasBecome stays failed) (map node_of olds) (map node_of news)
     became_of olds news h well =
@@ -89,11 +90,12 @@ module _ {N : Type 0} where
         (well i d lt))
       where
         by_fault : (old new : Seat N) (fault : Option NodeFault) → new.fault ≡ fault
-            → HasGone stands stays failed hub old new → old.fault ≡ None → HasBecome stays failed old.node new.node
+            → HasGone stands stays failed broken hub old new → old.fault ≡ None → HasBecome stays failed old.node
+            new.node
         by_fault old new None e h well = inl (h.stayed e)
         by_fault old new (Some fault) e h well = inr (fault, h.fails well fault e)
 
-    pub nodes_on : (olds news : List (Seat N)) → PairsAt (HasGone stands stays failed hub) olds news
+    pub nodes_on : (olds news : List (Seat N)) → PairsAt (HasGone stands stays failed broken hub) olds news
         → map (λ (s : Seat N). s.pass.node) news ≡ map (λ (s : Seat N). s.pass.node) olds
     nodes_on olds news h =
         maps_same (λ (s : Seat N). s.pass.node) olds news h.count (λ i d lt. (h.each i d lt).node_is)
@@ -162,7 +164,7 @@ module _ {N : Type 0} where
         undone_at tells run x news rests are k n node (omega (arith, lt, size)) (e x)
 
     pub failed_of : (tells : Type 0) (run : Beginning) (olds news : List (Seat N)) (fault : DriveFault)
-        → PairsAt (HasGone stands stays failed hub) olds news → EachAt (λ (s : Seat N). s.fault ≡ None) olds
+        → PairsAt (HasGone stands stays failed broken hub) olds news → EachAt (λ (s : Seat N). s.fault ≡ None) olds
         → ((w : Waiting) → fault ≡ Stuck w → EachAt (IsAtRest stands run hub tells) news)
         → map (λ (s : Seat N). s.pass.node) news ≡ nodes_of run.script → ShowsFault next news fault
         → IsFault tells stands run failed next (map node_of olds) (map node_of news) fault
@@ -202,33 +204,36 @@ module _ {N : Type 0} where
 
   -- seats that were in a run are in it still
   pub all_in : (stands : Part → N → List Round → List Step → Type 0) (stays : N → N → Type 0)
-      (failed : NodeFault → N → N → Type 0) (hub : HubView) (run : Beginning) (olds news : List (Seat N))
-      → PairsAt (HasGone stands stays failed hub) olds news
+      (failed : NodeFault → N → N → Type 0) (broken : Part → N → List Round → Type 0) (hub : HubView)
+      (run : Beginning) (olds news : List (Seat N))
+      → PairsAt (HasGone stands stays failed broken hub) olds news
       → EachAt (IsIn stands run hub) olds → EachAt (IsIn stands run hub) news
-  all_in stands stays failed hub run olds news h at i d lt =
+  all_in stands stays failed broken hub run olds news h at i d lt =
       let n = h.count in
       let here : i < length olds = omega (arith, lt, n) in
       (h.each i d here).kept run (at i d here)
 
   -- those that have stood in a run have done so still
   pub all_stood : (stands : Part → N → List Round → List Step → Type 0) (stays : N → N → Type 0)
-      (failed : NodeFault → N → N → Type 0) (hub : HubView) (run : Beginning) (olds news : List (Seat N))
-      → PairsAt (HasGone stands stays failed hub) olds news → EachAt (IsIn stands run hub) olds
-      → EachAt (λ (s : Seat N). HasStood stands stays failed run hub s.pass s.node s.steps.steps) olds
-      → EachAt (λ (s : Seat N). HasStood stands stays failed run hub s.pass s.node s.steps.steps) news
-  all_stood stands stays failed hub run olds news h at stood i d lt =
+      (failed : NodeFault → N → N → Type 0) (broken : Part → N → List Round → Type 0) (hub : HubView)
+      (run : Beginning) (olds news : List (Seat N))
+      → PairsAt (HasGone stands stays failed broken hub) olds news → EachAt (IsIn stands run hub) olds
+      → EachAt (λ (s : Seat N). HasStood stands stays failed broken run hub s.pass s.node s.steps.steps) olds
+      → EachAt (λ (s : Seat N). HasStood stands stays failed broken run hub s.pass s.node s.steps.steps) news
+  all_stood stands stays failed broken hub run olds news h at stood i d lt =
       let n = h.count in
       let here : i < length olds = omega (arith, lt, n) in
       (h.each i d here).held run (at i d here) (stood i d here)
 
   -- those that have just sat down stand there
   pub first_stood : (stands : Part → N → List Round → List Step → Type 0) (stays : N → N → Type 0)
-      (failed : NodeFault → N → N → Type 0) (so : (a : N) → stays a a) (hub : HubView) (run : Beginning)
+      (failed : NodeFault → N → N → Type 0) (broken : Part → N → List Round → Type 0) (so : (a : N) → stays a a)
+      (hub : HubView) (run : Beginning)
       (seats : List (Seat N)) → EachAt (IsSeated stands run hub) seats
       → EachAt (λ (s : Seat N). (s.steps.steps ≡ []) × (s.fault ≡ None)) seats
-      → EachAt (λ (s : Seat N). HasStood stands stays failed run hub s.pass s.node s.steps.steps) seats
-  first_stood stands stays failed so hub run seats at empty i d lt =
-      stood_first stands stays failed so run hub (get_or seats i d) (at i d lt) (empty i d lt).0
+      → EachAt (λ (s : Seat N). HasStood stands stays failed broken run hub s.pass s.node s.steps.steps) seats
+  first_stood stands stays failed broken so hub run seats at empty i d lt =
+      stood_first stands stays failed broken so run hub (get_or seats i d) (at i d lt) (empty i d lt).0
 
   -- those that sit in a run sit somewhere
   pub all_here : (stands : Part → N → List Round → List Step → Type 0) (hub : HubView) (run : Beginning)
@@ -325,34 +330,37 @@ driven_by {N} tells stands hands_in script start epochs can hub hub_is seats are
 
 -- the run of nodes that came to no end, by the turns of the hub that was closed
 module _ {N : Type 0} (tells : Type 0) (stands : Part → N → List Round → List Step → Type 0)
-    (stays : N → N → Type 0) (failed : NodeFault → N → N → Type 0)
+    (stays : N → N → Type 0) (failed : NodeFault → N → N → Type 0) (broken : Part → N → List Round → Type 0)
     (hands_in : (n : N) → HandsIn tells stands n) (script : Script) (start : Tree) (epochs : List ℕ)
     (can : CanStart script start epochs) (hub : HubView) (hub_is : IsHubOf script hub) (seats : List (Seat N))
     (are : map (λ (s : Seat N). s.pass.node) seats ≡ nodes_of script)
-    (stood : EachAt (λ (s : Seat N). HasStood stands stays failed (beginning script start epochs) hub s.pass s.node
+    (stood : EachAt (λ (s : Seat N). HasStood stands stays failed broken (beginning script start epochs) hub s.pass
+    s.node
     s.steps.steps) seats)
     (nodes : List N) (passes : List NodeView) (sit : nodes ≡ map node_of seats)
     (have : passes ≡ map (λ (s : Seat N). s.pass) seats) (journal : Journal)
     (h : (turns : List Turn) × HasEnded hub turns passes × IsJournalOf start epochs turns journal) where
   stood_each : (s : Seat N) → In s seats
-      → HasStood stands stays failed (beginning script start epochs) hub s.pass s.node s.steps.steps
+      → HasStood stands stays failed broken (beginning script start epochs) hub s.pass s.node s.steps.steps
   stood_each s i =
-      each_in (λ (x : Seat N). HasStood stands stays failed (beginning script start epochs) hub x.pass x.node
+      each_in (λ (x : Seat N). HasStood stands stays failed broken (beginning script start epochs) hub x.pass x.node
       x.steps.steps) seats s stood i
 
   sat_each : (s : Seat N) → In s seats → IsSat tells (beginning script start epochs) hub s.pass
   sat_each s i =
-      sat_stood tells stands hands_in (beginning script start epochs) hub stays failed s.pass s.node s.steps.steps
+      sat_stood tells stands hands_in (beginning script start epochs) hub stays failed broken s.pass s.node
+      s.steps.steps
       (stood_each s i)
 
-  pub stopped_by : HasStopped tells stands stays failed script start epochs nodes journal
+  pub stopped_by : HasStopped tells stands stays failed broken script start epochs nodes journal
   stopped_by = stopped tells stands script start epochs can hub hub_is seats are sat_each h.0 journal
-      h.2.starts h.2.epochs_are h.2.steps (subst (HasEnded hub h.0) have h.1) nodes sit stays failed stood_each
+      h.2.starts h.2.epochs_are h.2.steps (subst (HasEnded hub h.0) have h.1) nodes sit stays failed broken stood_each
 
   pub left_by : (left : List (List Step)) → left ≡ map (λ (s : Seat N). s.steps.steps) seats
       → AreLeft stands failed (beginning script start epochs) nodes left journal
   left_by left lie = left_are tells stands script start epochs can hub hub_is seats are sat_each h.0 journal
-      h.2.starts h.2.epochs_are h.2.steps (subst (HasEnded hub h.0) have h.1) nodes sit stays failed stood_each left lie
+      h.2.starts h.2.epochs_are h.2.steps (subst (HasEnded hub h.0) have h.1) nodes sit stays failed broken
+      stood_each left lie
 
   -- those that are at rest stand where it brought them
   pub rests_by : EachAt (IsAtRest stands (beginning script start epochs) hub tells) seats
@@ -364,30 +372,33 @@ module _ {N : Type 0} (tells : Type 0) (stands : Part → N → List Round → L
 
 -- such a run has a journal, whether or not it is at hand
 pub held_by : {N : Type 0} (tells : Type 0) (stands : Part → N → List Round → List Step → Type 0)
-    (stays : N → N → Type 0) (failed : NodeFault → N → N → Type 0)
+    (stays : N → N → Type 0) (failed : NodeFault → N → N → Type 0) (broken : Part → N → List Round → Type 0)
     (hands_in : (n : N) → HandsIn tells stands n) (script : Script) (start : Tree) (epochs : List ℕ)
     (can : CanStart script start epochs) (hub : HubView) (hub_is : IsHubOf script hub) (seats : List (Seat N))
     (are : map (λ (s : Seat N). s.pass.node) seats ≡ nodes_of script)
-    (stood : EachAt (λ (s : Seat N). HasStood stands stays failed (beginning script start epochs) hub s.pass s.node
+    (stood : EachAt (λ (s : Seat N). HasStood stands stays failed broken (beginning script start epochs) hub s.pass
+    s.node
     s.steps.steps) seats)
     (nodes : List N) (passes : List NodeView) → nodes ≡ map node_of seats
     → passes ≡ map (λ (s : Seat N). s.pass) seats → ((turns : List Turn) × HasEnded hub turns passes)
-    → (journal : Journal) × HasStopped tells stands stays failed script start epochs nodes journal
-held_by {N} tells stands stays failed hands_in script start epochs can hub hub_is seats are stood nodes passes sit have
-    ended =
+    → (journal : Journal) × HasStopped tells stands stays failed broken script start epochs nodes journal
+held_by {N} tells stands stays failed broken hands_in script start epochs can hub hub_is seats are stood nodes passes
+    sit have ended =
     let journal : Journal = record { start = start ∷ []; epochs = epochs; steps = steps_of ended.0 } in (
       journal,
-      stopped_by tells stands stays failed hands_in script start epochs can hub hub_is seats are stood nodes passes sit
+      stopped_by tells stands stays failed broken hands_in script start epochs can hub hub_is seats are stood nodes
+          passes sit
           have journal (ended.0, ended.1, record { starts = refl; epochs_are = refl; steps = refl }),
     )
 
 -- and one that couldn't begin has one without a step
 pub none_held : {N : Type 0} (tells : Type 0) (stands : Part → N → List Round → List Step → Type 0)
-    (stays : N → N → Type 0) (failed : NodeFault → N → N → Type 0) (so : (a : N) → stays a a) (script : Script)
+    (stays : N → N → Type 0) (failed : NodeFault → N → N → Type 0) (broken : Part → N → List Round → Type 0)
+    (so : (a : N) → stays a a) (script : Script)
     (start : Tree) (epochs : List ℕ) → CanStart script start epochs → (nodes : List N)
     → AreNodes stands (beginning script start epochs) nodes
-    → (journal : Journal) × HasStopped tells stands stays failed script start epochs nodes journal
-none_held {N} tells stands stays failed so script start epochs can nodes are =
+    → (journal : Journal) × HasStopped tells stands stays failed broken script start epochs nodes journal
+none_held {N} tells stands stays failed broken so script start epochs can nodes are =
     let journal : Journal = record { start = start ∷ []; epochs = epochs; steps = [] } in (
       journal,
       record {
@@ -408,6 +419,7 @@ none_held {N} tells stands stays failed so script start epochs can nodes are =
         stood = λ i n node lt. record {
           rounds = [];
           own = refl;
+          sent = λ m i. absurd i;
           before = get_or nodes i n;
           past = [];
           handed = [];

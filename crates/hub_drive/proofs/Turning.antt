@@ -14,7 +14,7 @@ use Rattle.hub_board.specs.declared.given.Given.{Given}
 use Rattle.hub_board.specs.declared.given.Turned.{Turned}
 use Rattle.hub_board.specs.declared.given.Turned.TheVariants.{Ended, Idle, Worked}
 use Rattle.hub_board.specs.declared.given.Given.TheVariants.{Message as Came, Raised as WasRaised}
-use Rattle.std.specs.Prelude.{IfErr, IfOk, OnOk, Result, Ok, Err, option_map}
+use Rattle.std.specs.Prelude.{IfErr, IfOk, OnErr, OnOk, Result, Ok, Err, option_map}
 use Rattle.std.proofs.Common.{inl, inr}
 use Rattle.hub_turns.specs.Meetings.{AreSent, HasPassed, IsGivenSound, IsRefused}
 use Rattle.hub_turns.specs.Views.{HubView, NodeView}
@@ -123,10 +123,11 @@ module _ {N : Type 0} (tells : Type 0) (stands : Part → N → List Round → L
     }
 
     -- the node has handed in, and did its work, or something failed there
-    pub stood_on : (stays : N → N → Type 0) (failed : NodeFault → N → N → Type 0) (n : N) (left : List Step)
-        → HasComeWith stands stays failed part (round ∷ seated.rounds) s.node n left
-        → HasStood stands stays failed run hub pass n left
-    stood_on stays failed n left since =
+    pub stood_on : (stays : N → N → Type 0) (failed : NodeFault → N → N → Type 0)
+        (broken : Part → N → List Round → Type 0) (n : N) (left : List Step)
+        → HasComeWith stands stays failed broken part (round ∷ seated.rounds) s.node n left
+        → HasStood stands stays failed broken run hub pass n left
+    stood_on stays failed broken n left since =
         let own : pass.node ≡ s.pass.node = ap (λ (p : NodeView). p.node) passed.pass_is in record {
           hub_is = ap (λ (p : NodeView). p.hub) passed.pass_is ∙ seated.hub_is;
           rounds = round ∷ seated.rounds;
@@ -140,7 +141,8 @@ module _ {N : Type 0} (tells : Type 0) (stands : Part → N → List Round → L
               seated.stood;
           whole = refl;
           since = subst (λ (k : Node).
-              HasComeWith stands stays failed (part_of run k) (round ∷ seated.rounds) s.node n left) (sym own) since;
+              HasComeWith stands stays failed broken (part_of run k) (round ∷ seated.rounds) s.node n left) (sym own)
+              since;
         }
 
     -- nothing came
@@ -163,10 +165,11 @@ module _ {N : Type 0} (tells : Type 0) (stands : Part → N → List Round → L
 
 -- nothing was handed in through a pass for want of memory
 pub stood_still : {N : Type 0} (stands : Part → N → List Round → List Step → Type 0) (stays : N → N → Type 0)
-    (failed : NodeFault → N → N → Type 0) (run : Beginning) (hub : HubView) (old new : NodeView) (n : N)
-    (left : List Step) → HasStood stands stays failed run hub old n left → IsRefused old new
-    → HasStood stands stays failed run hub new n left
-stood_still stands stays failed run hub old new n left h refused =
+    (failed : NodeFault → N → N → Type 0) (broken : Part → N → List Round → Type 0) (run : Beginning) (hub : HubView)
+    (old new : NodeView) (n : N)
+    (left : List Step) → HasStood stands stays failed broken run hub old n left → IsRefused old new
+    → HasStood stands stays failed broken run hub new n left
+stood_still stands stays failed broken run hub old new n left h refused =
     let own : new.node ≡ old.node = ap (λ (p : NodeView). p.node) refused.pass_is in record {
       hub_is = ap (λ (p : NodeView). p.hub) refused.pass_is ∙ h.hub_is;
       rounds = h.rounds;
@@ -177,16 +180,18 @@ stood_still stands stays failed run hub old new n left h refused =
       handed = h.handed;
       stood = subst (λ (k : Node). stands (part_of run k) h.before h.past h.handed) (sym own) h.stood;
       whole = h.whole;
-      since = subst (λ (k : Node). HasComeWith stands stays failed (part_of run k) h.rounds h.before n left) (sym own)
+      since = subst (λ (k : Node). HasComeWith stands stays failed broken (part_of run k) h.rounds h.before n left)
+          (sym own)
           h.since;
     }
 
 -- one that sits there with nothing to hand in stands there
 pub stood_first : {N : Type 0} (stands : Part → N → List Round → List Step → Type 0) (stays : N → N → Type 0)
-    (failed : NodeFault → N → N → Type 0) (so : (a : N) → stays a a) (run : Beginning) (hub : HubView) (s : Seat N)
+    (failed : NodeFault → N → N → Type 0) (broken : Part → N → List Round → Type 0) (so : (a : N) → stays a a)
+    (run : Beginning) (hub : HubView) (s : Seat N)
     → IsSeated stands run hub s → s.steps.steps ≡ []
-    → HasStood stands stays failed run hub s.pass s.node s.steps.steps
-stood_first stands stays failed so run hub s h none = record {
+    → HasStood stands stays failed broken run hub s.pass s.node s.steps.steps
+stood_first stands stays failed broken so run hub s h none = record {
   hub_is = h.hub_is;
   rounds = h.rounds;
   made = h.made;
@@ -201,11 +206,13 @@ stood_first stands stays failed so run hub s h none = record {
 
 -- what has become of a node, by what came of its work
 pub came_by : {N T : Type 0} (stands : Part → N → List Round → List Step → Type 0) (stays : N → N → Type 0)
-    (failed : NodeFault → N → N → Type 0) (part : Part) (rounds : List Round) (made : List Step) (before n : N)
+    (failed : NodeFault → N → N → Type 0) (broken : Part → N → List Round → Type 0) (part : Part)
+    (rounds : List Round) (made : List Step) (before n : N)
     (r : Result T NodeFault) → OnOk r (stands part n rounds made) → OnOk r (stays before n)
-    → IfErr r (λ fault. failed fault before n) → HasComeWith stands stays failed part rounds before n made
-came_by stands stays failed _ rounds made before n (Ok x) stood h f = inl (stood, h)
-came_by stands stays failed _ rounds made before n (Err fault) stood h f = inr (fault, f)
+    → IfErr r (λ fault. failed fault before n) → OnErr r (broken part n rounds)
+    → HasComeWith stands stays failed broken part rounds before n made
+came_by stands stays failed broken _ rounds made before n (Ok x) stood h f b = inl (stood, h)
+came_by stands stays failed broken _ rounds made before n (Err fault) stood h f b = inr ((fault, f), b)
 
 -- what is neither of the others
 pub is_idle : (turned : Turned) → (turned ≡ Worked → ⊥) → (turned ≡ Ended → ⊥) → turned ≡ Idle

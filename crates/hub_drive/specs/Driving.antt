@@ -5,18 +5,19 @@ use Rattle.std.specs.Prelude.{◌⊎◌, ℕ}
 use Rattle.base_types.specs.declared.ids.Node.{Node}
 use Rattle.base_types.specs.declared.limits.TheConstants.{HOSTS_MAX, SERVERS_MAX}
 use Rattle.tree_answers.specs.declared.tree.Tree.{Tree}
+use Rattle.message_types.specs.declared.message.Message.{Message}
 use Rattle.script_lines.specs.declared.script.Script.{Script}
 use Rattle.hub_board.specs.Hubs.{first_hub, nodes_of}
 use Rattle.hub_board.specs.Turning.{steps_of}
 use Rattle.hub_board.specs.declared.given.Turn.{Turn}
 use Rattle.run_rules.specs.Past.{Always, In, appended}
-use Rattle.run_rules.specs.Plans.{IsPlanned}
+use Rattle.run_rules.specs.Plans.{IsPlanned, sent_in}
 use Rattle.run_rules.specs.Runs.{IsDutiful, IsEnded, IsRun, IsValid, past_of}
 use Rattle.run_rules.specs.Steps.{is_node}
 use Rattle.hub_turns.specs.Views.{HubView}
 use Rattle.run_rules.specs.declared.journal.Journal.{Journal}
 use Rattle.run_rules.specs.declared.step.Step.{Step}
-use Rattle.hub_laws.specs.Keeping.{Round, steps_in}
+use Rattle.hub_laws.specs.Keeping.{Round, messages_given, steps_in}
 use Rattle.hub_node.specs.Nodes.{Beginning, IsDone, Knows, OwnMeets, Part, part_of}
 use Rattle.hub_drive.specs.declared.driver.DriveFault.{DriveFault}
 use Rattle.hub_drive.specs.declared.driver.DriveFault.TheVariants.{Memory, Store, Stuck}
@@ -89,17 +90,19 @@ pub record HasDriven {N : Type 0} (tells : Type 0) (stands : Part → N → List
 
 -- A node has stood where its own steps in a journal brought it: so it did as it was when it handed in the last of them,
 -- or before its first turn. It stands there still, with some steps that it has made since; or something failed there
--- since then.
+-- since then. Each message that it was given was sent in the journal.
 pub record HasStoodAfter {N : Type 0} (stands : Part → N → List Round → List Step → Type 0) (stays : N → N → Type 0)
-    (failed : NodeFault → N → N → Type 0) (run : Beginning) (journal : Journal) (node : Node) (n : N) : Type 0 where
+    (failed : NodeFault → N → N → Type 0) (broken : Part → N → List Round → Type 0) (run : Beginning)
+    (journal : Journal) (node : Node) (n : N) : Type 0 where
   pub rounds : List Round
   pub own : own_steps journal node ≡ steps_in rounds
+  pub sent : (m : Message) → In m (messages_given rounds) → In m (sent_in (past_of journal))
   pub before : N
   pub past : List Round
   pub handed : List Step
   pub stood : stands (part_of run node) before past handed
   pub whole : steps_in rounds ≡ appended handed (steps_in past)
-  pub since : HasComeTo stands stays failed (part_of run node) rounds before n
+  pub since : HasComeTo stands stays failed broken (part_of run node) rounds before n
 
 -- What is left of a node beside a journal: it stands on its own steps there, and on these, which it has made since it
 -- handed any in, and so on no others; or something failed there.
@@ -126,7 +129,8 @@ pub record AreLeft {N : Type 0} (stands : Part → N → List Round → List Ste
 -- as it was when it handed in the last of them. Which steps it has made since, that aren't in it, is told by what is
 -- left (`AreLeft`).
 pub record HasStopped {N : Type 0} (tells : Type 0) (stands : Part → N → List Round → List Step → Type 0)
-    (stays : N → N → Type 0) (failed : NodeFault → N → N → Type 0) (script : Script) (start : Tree) (epochs : List ℕ)
+    (stays : N → N → Type 0) (failed : NodeFault → N → N → Type 0) (broken : Part → N → List Round → Type 0)
+    (script : Script) (start : Tree) (epochs : List ℕ)
     (nodes : List N) (journal : Journal) : Type 0 where
   pub starts : journal.start ≡ start ∷ []
   pub epochs_are : journal.epochs ≡ epochs
@@ -137,7 +141,7 @@ pub record HasStopped {N : Type 0} (tells : Type 0) (stands : Part → N → Lis
   pub dutiful : tells → IsDutiful script journal
   pub count : length nodes ≡ length (nodes_of script)
   pub stood : (i : ℕ) (n : N) (node : Node) → i < length nodes
-      → HasStoodAfter stands stays failed (beginning script start epochs) journal
+      → HasStoodAfter stands stays failed broken (beginning script start epochs) journal
       (slice_index_or (nodes_of script) i node) (slice_index_or nodes i n)
 
 -- a journal from a tree and in these epochs, with the steps of these turns

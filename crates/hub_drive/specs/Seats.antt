@@ -48,23 +48,26 @@ pub record IsHere {N : Type 0} (stands : Part → N → List Round → List Step
   pub is_in : IsIn stands run hub s
 
 -- What has become of a node since it handed in for the last time: it stands on the steps of all its rounds, with some
--- that it has made since; or something failed there.
+-- that it has made since; or something failed there, in the turn of the newest.
 abbrev pub HasComeTo : {N : Type 0} → (Part → N → List Round → List Step → Type 0) → (N → N → Type 0)
-    → (NodeFault → N → N → Type 0) → Part → List Round → N → N → Type 0
-HasComeTo stands stays failed part rounds before n =
-    ((made : List Step) × stands part n rounds made × stays before n) ⊎ ((fault : NodeFault) × failed fault before n)
+    → (NodeFault → N → N → Type 0) → (Part → N → List Round → Type 0) → Part → List Round → N → N → Type 0
+HasComeTo stands stays failed broken part rounds before n =
+    ((made : List Step) × stands part n rounds made × stays before n)
+    ⊎ (((fault : NodeFault) × failed fault before n) × broken part n rounds)
 
 -- the same, where it has made these since, which are left
 abbrev pub HasComeWith : {N : Type 0} → (Part → N → List Round → List Step → Type 0) → (N → N → Type 0)
-    → (NodeFault → N → N → Type 0) → Part → List Round → N → N → List Step → Type 0
-HasComeWith stands stays failed part rounds before n left =
-    (stands part n rounds left × stays before n) ⊎ ((fault : NodeFault) × failed fault before n)
+    → (NodeFault → N → N → Type 0) → (Part → N → List Round → Type 0) → Part → List Round → N → N → List Step → Type 0
+HasComeWith stands stays failed broken part rounds before n left =
+    (stands part n rounds left × stays before n)
+    ⊎ (((fault : NodeFault) × failed fault before n) × broken part n rounds)
 
 -- What is known of a node with its pass and the steps that are left, even where something failed there: these rounds
 -- have made the pass, and the node has kept on in each. As it was when it handed in for the last time, or before its
 -- first turn, it stood on all the steps of these rounds.
 pub record HasStood {N : Type 0} (stands : Part → N → List Round → List Step → Type 0) (stays : N → N → Type 0)
-    (failed : NodeFault → N → N → Type 0) (run : Beginning) (hub : HubView) (pass : NodeView) (n : N)
+    (failed : NodeFault → N → N → Type 0) (broken : Part → N → List Round → Type 0) (run : Beginning) (hub : HubView)
+    (pass : NodeView) (n : N)
     (left : List Step) : Type 0 where
   pub hub_is : pass.hub ≡ hub.id
   pub rounds : List Round
@@ -75,21 +78,22 @@ pub record HasStood {N : Type 0} (stands : Part → N → List Round → List St
   pub handed : List Step
   pub stood : stands (part_of run pass.node) before past handed
   pub whole : steps_in rounds ≡ appended handed (steps_in past)
-  pub since : HasComeWith stands stays failed (part_of run pass.node) rounds before n left
+  pub since : HasComeWith stands stays failed broken (part_of run pass.node) rounds before n left
 
 -- What has become of a seat: it is its node's, and that sits there still, in whatever run it did; as long as nothing
 -- failed it has what stays of it, and where something has, that is so since then; where something failed before
 -- nothing was done; and whatever comes, it has stood there.
 pub record HasGone {N : Type 0} (stands : Part → N → List Round → List Step → Type 0) (stays : N → N → Type 0)
-    (failed : NodeFault → N → N → Type 0) (hub : HubView) (old new : Seat N) : Type 0 where
+    (failed : NodeFault → N → N → Type 0) (broken : Part → N → List Round → Type 0) (hub : HubView)
+    (old new : Seat N) : Type 0 where
   pub node_is : new.pass.node ≡ old.pass.node
   pub kept : (run : Beginning) → IsIn stands run hub old → IsIn stands run hub new
   pub stayed : new.fault ≡ None → stays old.node new.node
   pub fails : old.fault ≡ None → (fault : NodeFault) → new.fault ≡ Some fault → failed fault old.node new.node
   pub frozen : (old.fault ≡ None → ⊥) → (new.node ≡ old.node) × (new.fault ≡ old.fault)
   pub held : (run : Beginning) → IsIn stands run hub old
-      → HasStood stands stays failed run hub old.pass old.node old.steps.steps
-      → HasStood stands stays failed run hub new.pass new.node new.steps.steps
+      → HasStood stands stays failed broken run hub old.pass old.node old.steps.steps
+      → HasStood stands stays failed broken run hub new.pass new.node new.steps.steps
 
 -- it is so of each of a list
 abbrev pub EachAt : {A : Type 0} → (A → Type 0) → List A → Type 0

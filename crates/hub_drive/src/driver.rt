@@ -217,7 +217,8 @@ fn stop<N: Node>(
     requires hub { IsHubOf script.now hub }
     requires closing { hub.nodes ≤ closing }
     requires are { map (λ s. s.pass.node) seats.items ≡ nodes_of script.now }
-    requires stood { EachAt (λ s. HasStood N.stands N.stays N.failed (beginning script.now start epochs) hub s.pass
+    requires stood { EachAt (λ s. HasStood N.stands N.stays N.failed N.broken (beginning script.now start epochs) hub
+        s.pass
         s.node s.steps.steps) seats.items }
     requires rest { (w : WaitingAt) → fault ≡ StuckAt w
         → EachAt (IsAtRest N.stands (beginning script.now start epochs) hub N.tells) seats.items }
@@ -229,9 +230,9 @@ fn stop<N: Node>(
     ensures stopped { OnOk result.result ⊥ }
     ensures fault { IfErr result.result (λ f. (f ≡ fault) ⊎ IsFree f) }
     ensures so_far { IfSome result.so_far (λ journal.
-        HasStopped N.tells N.stands N.stays N.failed script.now start epochs result.nodes.items journal) }
+        HasStopped N.tells N.stands N.stays N.failed N.broken script.now start epochs result.nodes.items journal) }
     ensures held { OnErr result.result ((journal : JournalOf)
-        × HasStopped N.tells N.stands N.stays N.failed script.now start epochs result.nodes.items journal) }
+        × HasStopped N.tells N.stands N.stays N.failed N.broken script.now start epochs result.nodes.items journal) }
     ensures left { IfSome result.so_far (λ journal.
         AreLeft N.stands N.failed (beginning script.now start epochs) result.nodes.items result.left.items journal) }
     ensures lacks { IfErr result.result (λ f. result.so_far ≡ None → f ≡ OutOfMemory) }
@@ -274,7 +275,8 @@ fn finish<N: Node>(
     requires closing { hub.nodes ≤ closing }
     requires are { map (λ s. s.pass.node) seats.items ≡ nodes_of script.now }
     requires through { EachAt (IsThrough N.stands (beginning script.now start epochs) hub N.tells) seats.items }
-    requires stood { EachAt (λ s. HasStood N.stands N.stays N.failed (beginning script.now start epochs) hub s.pass
+    requires stood { EachAt (λ s. HasStood N.stands N.stays N.failed N.broken (beginning script.now start epochs) hub
+        s.pass
         s.node s.steps.steps) seats.items }
     requires none { (nodes.items ≡ []) × (passes.items ≡ []) × (left.items ≡ []) }
     requires nodes_room { length seats.items ≤ vec_capacity nodes }
@@ -285,7 +287,7 @@ fn finish<N: Node>(
         (λ journal. HasDriven N.tells N.stands script.now start epochs result.nodes.items journal) }
     ensures failed { IfErr result.result (λ fault. IsFree fault) }
     ensures held { OnErr result.result ((journal : JournalOf)
-        × HasStopped N.tells N.stands N.stays N.failed script.now start epochs result.nodes.items journal) }
+        × HasStopped N.tells N.stands N.stays N.failed N.broken script.now start epochs result.nodes.items journal) }
     ensures none { result.so_far ≡ None }
 {
     let _script = script;
@@ -326,7 +328,8 @@ fn run_at<N: Node + Send, R: Threads + Wait + Sync, G: Gate + Sync>(
     requires are { map (λ s. s.pass.node) seats.items ≡ nodes_of script.now }
     requires seated { EachAt (IsSeated N.stands (beginning script.now start epochs) hub) seats.items }
     requires well { EachAt (λ s. s.fault ≡ None) seats.items }
-    requires stood { EachAt (λ s. HasStood N.stands N.stays N.failed (beginning script.now start epochs) hub s.pass
+    requires stood { EachAt (λ s. HasStood N.stands N.stays N.failed N.broken (beginning script.now start epochs) hub
+        s.pass
         s.node s.steps.steps) seats.items }
     requires none { (nodes.items ≡ []) × (passes.items ≡ []) × (left.items ≡ []) }
     requires nodes_room { length seats.items ≤ vec_capacity nodes }
@@ -340,9 +343,9 @@ fn run_at<N: Node + Send, R: Threads + Wait + Sync, G: Gate + Sync>(
         (λ fault. IsFault N.tells N.stands (beginning script.now start epochs) N.failed N.next
         (map (λ s. s.node) seats.items) result.nodes.items fault) }
     ensures so_far { IfSome result.so_far (λ journal.
-        HasStopped N.tells N.stands N.stays N.failed script.now start epochs result.nodes.items journal) }
+        HasStopped N.tells N.stands N.stays N.failed N.broken script.now start epochs result.nodes.items journal) }
     ensures held { OnErr result.result ((journal : JournalOf)
-        × HasStopped N.tells N.stands N.stays N.failed script.now start epochs result.nodes.items journal) }
+        × HasStopped N.tells N.stands N.stays N.failed N.broken script.now start epochs result.nodes.items journal) }
     ensures left { IfSome result.so_far (λ journal.
         AreLeft N.stands N.failed (beginning script.now start epochs) result.nodes.items result.left.items journal) }
     ensures lacks { IfErr result.result (λ fault. result.so_far ≡ None → fault ≡ OutOfMemory) }
@@ -429,9 +432,9 @@ pub fn drive<N: Node + Send, R: Threads + Wait + Sync, G: Gate + Sync>(
         IsFault N.tells N.stands (beginning script.now start epochs) N.failed N.next nodes.items result.nodes.items
         fault) }
     ensures so_far { IfSome result.so_far (λ journal.
-        HasStopped N.tells N.stands N.stays N.failed script.now start epochs result.nodes.items journal) }
+        HasStopped N.tells N.stands N.stays N.failed N.broken script.now start epochs result.nodes.items journal) }
     ensures held { OnErr result.result ((journal : JournalOf)
-        × HasStopped N.tells N.stands N.stays N.failed script.now start epochs result.nodes.items journal) }
+        × HasStopped N.tells N.stands N.stays N.failed N.broken script.now start epochs result.nodes.items journal) }
     ensures left { IfSome result.so_far (λ journal.
         AreLeft N.stands N.failed (beginning script.now start epochs) result.nodes.items result.left.items journal) }
     ensures lacks { IfErr result.result (λ fault. result.so_far ≡ None → fault ≡ OutOfMemory) }

@@ -38,7 +38,7 @@ pub(crate) fn turn_all<N: Node, R: Wait, G: Gate>(
         → EachAt (IsThrough N.stands run hub.now N.tells) seats.new }
     ensures rests { (run : Beginning) → EachAt (IsIn N.stands run hub.now) seats.old → result.worked ≡ false
         → result.stopped ≡ false → EachAt (IsAtRest N.stands run hub.now N.tells) seats.new }
-    ensures gone { PairsAt (HasGone N.stands N.stays N.failed hub.now) seats.old seats.new }
+    ensures gone { PairsAt (HasGone N.stands N.stays N.failed N.broken hub.now) seats.old seats.new }
 {
     let mut went = Went {
         through: true,
@@ -143,7 +143,7 @@ fn work<N: Node, R: Wait, G: Gate>(
 )
     requires { EachAt (IsHere N.stands hub.now) seats.old }
     ensures kept { EachAt (IsHere N.stands hub.now) seats.new }
-    ensures gone { PairsAt (HasGone N.stands N.stays N.failed hub.now) seats.old seats.new }
+    ensures gone { PairsAt (HasGone N.stands N.stays N.failed N.broken hub.now) seats.old seats.new }
 {
     words.late.fetch_sub(1, Ordering::SeqCst);
     for _ in rt.forever() {
@@ -172,7 +172,7 @@ fn work_bundle<N: Node, R: Wait, G: Gate>(
     bundle: &mut Vec<Seat<N>>,
 )
     requires { EachAt (IsHere N.stands hub.now) bundle.old.items }
-    ensures gone { PairsAt (HasGone N.stands N.stays N.failed hub.now) bundle.old.items bundle.new.items }
+    ensures gone { PairsAt (HasGone N.stands N.stays N.failed N.broken hub.now) bundle.old.items bundle.new.items }
 {
     work(rt, hub, gate, words, bundle.as_mut_slice());
 }
@@ -186,7 +186,7 @@ fn turn_bundles<N: Node + Send, R: Threads + Wait + Sync, G: Gate + Sync>(
 )
     requires some { 0 < length bundles.old }
     requires here { EachAt (λ b. EachAt (IsHere N.stands hub.now) b.items) bundles.old }
-    ensures gone { PairsAt (λ a b. PairsAt (HasGone N.stands N.stays N.failed hub.now) a.items b.items)
+    ensures gone { PairsAt (λ a b. PairsAt (HasGone N.stands N.stays N.failed N.broken hub.now) a.items b.items)
         bundles.old bundles.new }
 {
     let words = Words::new(bundles.len() as u64);
@@ -198,7 +198,7 @@ fn turn_bundles<N: Node + Send, R: Threads + Wait + Sync, G: Gate + Sync>(
         workers,
         &|_place: usize, bundle: &mut Vec<Seat<N>>|
             requires { EachAt (IsHere N.stands hub.now) bundle.now.items }
-            ensures gone { PairsAt (HasGone N.stands N.stays N.failed hub.entry.now) bundle.entry.now.items
+            ensures gone { PairsAt (HasGone N.stands N.stays N.failed N.broken hub.entry.now) bundle.entry.now.items
                 bundle.exit.now.items }
         { work_bundle(rt, hub, gate, told, bundle) },
     );
@@ -216,7 +216,7 @@ fn turn_dealt<N: Node + Send, R: Threads + Wait + Sync, G: Gate + Sync>(
     requires here { EachAt (IsHere N.stands hub.now) seats.old.items }
     requires some { 0 < length bundles.old }
     requires empty { EachAt (λ b. b.items ≡ []) bundles.old }
-    ensures gone { PairsAt (HasGone N.stands N.stays N.failed hub.now) seats.old.items seats.new.items }
+    ensures gone { PairsAt (HasGone N.stands N.stays N.failed N.broken hub.now) seats.old.items seats.new.items }
 {
     let count = seats.len();
     deal(hosts, seats, bundles);
@@ -235,7 +235,7 @@ fn turn_by_workers<N: Node + Send, R: Threads + Wait + Sync, G: Gate + Sync>(
     workers: u32,
 )
     requires here { EachAt (IsHere N.stands hub.now) seats.old.items }
-    ensures gone { PairsAt (HasGone N.stands N.stays N.failed hub.now) seats.old.items seats.new.items }
+    ensures gone { PairsAt (HasGone N.stands N.stays N.failed N.broken hub.now) seats.old.items seats.new.items }
 {
     let count = seats.len().min(workers as usize);
     let Ok(mut bundles) = empty_bundles(*seats.allocator(), count) else {
@@ -258,7 +258,7 @@ fn turn_list<N: Node, R: Wait, G: Gate>(
         → EachAt (IsThrough N.stands run hub.now N.tells) seats.new.items }
     ensures rests { (run : Beginning) → EachAt (IsIn N.stands run hub.now) seats.old.items → result.worked ≡ false
         → result.stopped ≡ false → EachAt (IsAtRest N.stands run hub.now N.tells) seats.new.items }
-    ensures gone { PairsAt (HasGone N.stands N.stays N.failed hub.now) seats.old.items seats.new.items }
+    ensures gone { PairsAt (HasGone N.stands N.stays N.failed N.broken hub.now) seats.old.items seats.new.items }
 {
     turn_all(rt, hub, gate, seats.as_mut_slice())
 }
@@ -277,7 +277,7 @@ fn turn_once<N: Node + Send, R: Threads + Wait + Sync, G: Gate + Sync>(
         → EachAt (IsThrough N.stands run hub.now N.tells) seats.new.items }
     ensures rests { (run : Beginning) → EachAt (IsIn N.stands run hub.now) seats.old.items → result.worked ≡ false
         → result.stopped ≡ false → EachAt (IsAtRest N.stands run hub.now N.tells) seats.new.items }
-    ensures gone { PairsAt (HasGone N.stands N.stays N.failed hub.now) seats.old.items seats.new.items }
+    ensures gone { PairsAt (HasGone N.stands N.stays N.failed N.broken hub.now) seats.old.items seats.new.items }
 {
     if workers <= 1 {
         return turn_list(rt, hub, gate, seats);
@@ -302,7 +302,7 @@ pub(crate) fn turn_until<N: Node + Send, R: Threads + Wait + Sync, G: Gate + Syn
         → EachAt (IsThrough N.stands run hub.now N.tells) seats.new.items }
     ensures rests { (run : Beginning) → EachAt (IsIn N.stands run hub.now) seats.old.items → result.worked ≡ false
         → result.stopped ≡ false → EachAt (IsAtRest N.stands run hub.now N.tells) seats.new.items }
-    ensures gone { PairsAt (HasGone N.stands N.stays N.failed hub.now) seats.old.items seats.new.items }
+    ensures gone { PairsAt (HasGone N.stands N.stays N.failed N.broken hub.now) seats.old.items seats.new.items }
 {
     for _ in rt.forever() {
         let went = turn_once(rt, hub, gate, hosts, seats, workers);

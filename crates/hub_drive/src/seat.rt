@@ -51,8 +51,8 @@ fn take_turn<N: Node, R: Wait, G: Gate>(
         → (ended ≡ false → turned ≡ HasEnded → ⊥) → seat.new.fault ≡ None
         → IsAtRest N.stands run hub.now N.tells (record seat.new { ended = ended })) }
     ensures held { (run : Beginning) → IsSeated N.stands run hub.now seat.old
-        → HasStood N.stands N.stays N.failed run hub.now seat.old.pass seat.old.node seat.old.steps.steps
-        → HasStood N.stands N.stays N.failed run hub.now seat.new.pass seat.new.node seat.new.steps.steps }
+        → HasStood N.stands N.stays N.failed N.broken run hub.now seat.old.pass seat.old.node seat.old.steps.steps
+        → HasStood N.stands N.stays N.failed N.broken run hub.now seat.new.pass seat.new.node seat.new.steps.steps }
     ensures node { seat.new.pass.node ≡ seat.old.pass.node }
     ensures stays { OnOk result (N.stays seat.old.node seat.new.node) }
     ensures failed { IfErr result (λ fault. N.failed fault seat.old.node seat.new.node) }
@@ -78,7 +78,7 @@ pub(crate) fn turn<N: Node, R: Wait, G: Gate>(
         → IsThrough N.stands run hub.now N.tells seat.new }
     ensures rests { (run : Beginning) → IsIn N.stands run hub.now seat.old → (result ≡ HasWorked → ⊥)
         → seat.new.fault ≡ None → IsAtRest N.stands run hub.now N.tells seat.new }
-    ensures gone { HasGone N.stands N.stays N.failed hub.now seat.old seat.new }
+    ensures gone { HasGone N.stands N.stays N.failed N.broken hub.now seat.old seat.new }
 {
     if seat.fault.is_some() {
         return Turned::Idle;

@@ -110,6 +110,8 @@ impl Node for Stub {
 
     ghost failed = { λ fault a b. Unit {0} };
 
+    ghost broken = { λ part n past. Unit {0} };
+
     ghost next = { λ n. n.line };
 
     fn waiting(&self) -> Option<u32> {

@@ -117,6 +117,11 @@ kept_fits script rooms turns journal kept =
     planned_from script journal.start rooms kept.due turns first [] nothing_known [] [] [] stands kept.given
     kept.nodes raises
 
+-- what is given was sent
+pub kept_gives_sent : (script : Script) (rooms : List ServerId) (turns : List Turn) (journal : Journal)
+    → IsKept script rooms turns journal → GivesSent (first_hub script rooms) turns []
+kept_gives_sent script rooms turns journal kept = (kept_fits script rooms turns journal kept).1
+
 pub kept_is_planned : KeptIsPlanned
 kept_is_planned script rooms turns journal kept =
     let fits = kept_fits script rooms turns journal kept in

@@ -24,6 +24,11 @@ module _ {H S : Type 0} where
   stands_any hs ss part (Host h) past made = hs part h past made
   stands_any hs ss part (Server s) past made = ss part s past made
 
+  abbrev pub broken_any : (Part → H → List Round → Type 0) → (Part → S → List Round → Type 0) → Part → AnyNode H S
+      → List Round → Type 0
+  broken_any hb sb part (Host h) past = hb part h past
+  broken_any hb sb part (Server s) past = sb part s past
+
   abbrev pub next_any : (H → Option ℕ) → (S → Option ℕ) → AnyNode H S → Option ℕ
   next_any hn sn (Host h) = hn h
   next_any hn sn (Server s) = sn s

@@ -9,7 +9,15 @@ pub enum AnyNode<H, S> {
 }
 
 impl<H: Node, S: Node> Node for AnyNode<H, S> {
-    ghost use Rattle.hub_node.specs.Either.{fails_either, hands_any, lacks_here, next_any, of_either, stands_any};
+    ghost use Rattle.hub_node.specs.Either.{
+      broken_any,
+      fails_either,
+      hands_any,
+      lacks_here,
+      next_any,
+      of_either,
+      stands_any,
+    };
     ghost use Rattle.hub_node.specs.Either.{stays_after, stays_here};
 
     ghost tells = { H.tells × S.tells };
@@ -19,6 +27,8 @@ impl<H: Node, S: Node> Node for AnyNode<H, S> {
     ghost stays = { of_either H.stays S.stays };
 
     ghost failed = { λ fault. of_either (H.failed fault) (S.failed fault) };
+
+    ghost broken = { broken_any H.broken S.broken };
 
     ghost next = { next_any H.next S.next };
 

@@ -1,4 +1,4 @@
-ghost use Rattle.std.specs.Prelude.{◌≡◌, [], ◌∷◌, ℕ, List, None, Option, Ok, IfErr, IfOk, OnOk};
+ghost use Rattle.std.specs.Prelude.{◌≡◌, [], ◌∷◌, ℕ, List, None, Option, Ok, IfErr, IfOk, OnErr, OnOk};
 ghost use Rattle.hub_board.specs.declared.given.Turned.TheVariants.{Ended, Idle, Worked};
 ghost use Rattle.run_rules.specs.declared.step.Step.{Step as StepOf};
 ghost use Rattle.hub_laws.specs.Keeping.{Round, steps_in};
@@ -32,6 +32,9 @@ pub trait Node: Drop {
     /// What has become of a node where this failed, from before to after.
     ghost failed: { FaultOf → Self → Self → Type 0 };
 
+    /// What has become of it in this part of a run where something failed in the newest of these rounds.
+    ghost broken: { Part → Self → List Round → Type 0 };
+
     /// The number of its next line, where one is left.
     ghost next: { Self → Option ℕ };
 
@@ -57,7 +60,10 @@ pub trait Node: Drop {
             → IsGivenTo part given → result ≡ Ok Idle → Knows tells part.node
             → IsDone part.run part.node (steps_in (record { steps = made; given = given } ∷ past)) → ⊥ }
         ensures stays { OnOk result (stays self.old self.new) }
-        ensures failed { IfErr result (λ fault. failed fault self.old self.new) };
+        ensures failed { IfErr result (λ fault. failed fault self.old self.new) }
+        ensures broken { (part : Part) (past : List Round) (made : List StepOf) → stands part self.old past made
+            → IsGivenTo part given
+            → OnErr result (broken part self.new (record { steps = made; given = given } ∷ past)) };
 
     /// It may hand in what it has made.
     ghost hands_in: { (n : Self) → HandsIn tells stands n };

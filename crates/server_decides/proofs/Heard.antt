@@ -30,9 +30,11 @@ use Rattle.message_types.specs.declared.message.Body.TheVariants.{
   Shipped,
 }
 use Rattle.message_types.specs.declared.message.Message.{Message}
+use Rattle.run_rules.specs.Past.{In}
 use Rattle.run_rules.specs.Wants.{body_of}
 use Rattle.run_rules.specs.declared.applied.Request.{Request}
 use Rattle.run_rules.specs.declared.applied.Request.TheVariants.{Change as Changes, Fetch as Asks}
+use Rattle.run_rules.specs.declared.applied.Wanted.{Wanted}
 use Rattle.store_memory.specs.Views.{IsSameStore, View}
 use Rattle.server_tables.specs.Counting.{IsCounted}
 use Rattle.server_tables.specs.Answers.{is_old}
@@ -41,12 +43,13 @@ use Rattle.server_tables.specs.Places.{is_of}
 use Rattle.server_tables.specs.Updates.{gone_away}
 use Rattle.server_tables.specs.declared.pending.Pending.{Pending}
 use Rattle.server_tables.specs.declared.tables.Tables.{Tables}
+use Rattle.server_says.specs.Keepers.{HasBrought}
 use Rattle.server_says.specs.Messages.{IsFor, IsHeard}
 use Rattle.server_says.specs.Taking.{IsBodyTaken, IsMadeOf, IsOtherTaken, IsRequestTaken, IsTaken, Made, Whether}
 use Rattle.server_says.specs.Taking.{want_made}
 use Rattle.server_says.specs.Taking.{comes_new, ends_now, is_decided_here, takes_change, takes_fetch, wanted_for}
 use Rattle.server_says.specs.Draft.{Draft}
-use Rattle.server_decides.specs.Serving.{CameSo, IsServed}
+use Rattle.server_decides.specs.Serving.{AreBrought, CameSo, IsServed}
 use Rattle.server_decides.proofs.Served.{each_end, served_of}
 
 each_filter : {A : Type 0} (P : A → Type 0) (p : A → Bool) (xs : List A) → Each P xs → Each P (filter p xs)
@@ -61,10 +64,13 @@ whether : (b : Bool) (P Q R : Type 0) → Whether b P Q → (b ≡ true → P �
 whether true P Q R h f g = f refl h
 whether false P Q R h f g = g h
 
-module _ (x : Tables) (d : Draft) (m : Message) (is : IsFor x.server x.roster m) (needs : List Need)
+-- whatever holds of a want that the message makes
+module _ (x : Tables) (d : Draft) (m : Message) (Q : Wanted → Type 0)
+    (wanted_so : (r : Request) (needs : List Need) → m.moves ≡ 0 → m.body ≡ body_of r
+    → ((f : FetchOf) → r ≡ Asks f → needs ≡ f.needs) → Q (wanted_for m.host r needs)) (needs : List Need)
     (told : Option Status) where
   abbrev AllCame : List Pending → Type 0
-  AllCame ps = Each (λ (p : Pending). CameSo x.server x.roster p.wanted) ps
+  AllCame ps = Each (λ (p : Pending). Q p.wanted) ps
 
   -- the tables are the server's, and each want that waits came so
   record AreKept (y : Tables) : Type 0 where
@@ -75,18 +81,12 @@ module _ (x : Tables) (d : Draft) (m : Message) (is : IsFor x.server x.roster m)
   kept_same : AreKept x
   kept_same = record { server = refl; roster = refl; came = λ e. e }
 
-  -- a request that the message has
-  wanted_so : (r : Request) (needs : List Need) → m.moves ≡ 0 → m.body ≡ body_of r
-      → ((f : FetchOf) → r ≡ Asks f → needs ≡ f.needs) → CameSo x.server x.roster (wanted_for m.host r needs)
-  wanted_so r needs moves body its =
-      record { m = m; came = is; host = refl; moves = moves; body = body; needs = its }
-
   kept_want : (r : Request) (needs : List Need) → m.moves ≡ 0 → m.body ≡ body_of r
       → ((f : FetchOf) → r ≡ Asks f → needs ≡ f.needs) → AreKept (want_made x d (wanted_for m.host r needs)).tables
   kept_want r needs moves body its = record {
     server = refl;
     roster = refl;
-    came = λ e. each_end (λ (p : Pending). CameSo x.server x.roster p.wanted) x.pending
+    came = λ e. each_end (λ (p : Pending). Q p.wanted) x.pending
         (record { number = x.next; wanted = wanted_for m.host r needs }) e (wanted_so r needs moves body its);
   }
 
@@ -107,7 +107,7 @@ module _ (x : Tables) (d : Draft) (m : Message) (is : IsFor x.server x.roster m)
   kept_away z v r p h = record {
     server = v;
     roster = r;
-    came = λ e. each_filter (λ (q : Pending). CameSo x.server x.roster q.wanted) (λ (q : Pending).
+    came = λ e. each_filter (λ (q : Pending). Q q.wanted) (λ (q : Pending).
         not (q.wanted.host.0 == h.0)) z.pending (subst AllCame (sym p) e);
   }
 
@@ -184,5 +184,19 @@ module _ (x : Tables) (d : Draft) (m : Message) (is : IsFor x.server x.roster m)
 pub heard_served : (x y : Tables) (d e : Draft) (m : Message) (old new : View) → IsServed x old.state
     → IsFor x.server x.roster m → IsHeard x d m y e → IsCounted y → IsSameStore old new → IsServed y new.state
 heard_served x y d e m old new s is h counted same =
-    let k = kept x d m is h.needs h.told y e h.taken in
+    let k = kept x d m (CameSo x.server x.roster) (λ r needs moves body its. record {
+      m = m;
+      came = is;
+      host = refl;
+      moves = moves;
+      body = body;
+      needs = its;
+    }) h.needs h.told y e h.taken in
     served_of x y old new s same k.server k.roster counted y.pending refl (k.came s.asked)
+
+-- and each was brought by one of some messages, where the one that was taken is among them
+pub heard_brought : (x y : Tables) (d e : Draft) (m : Message) (came : List Message) → In m came → IsHeard x d m y e
+    → AreBrought came x.pending → AreBrought came y.pending
+heard_brought x y d e m came i h all =
+    (kept x d m (λ w. HasBrought came w.host (body_of w.request)) (λ r needs moves body its. (m, i, refl, body)) h.needs
+    h.told y e h.taken).came all

@@ -2,6 +2,7 @@ pub mod Served
 pub mod Steps
 pub mod Parts
 pub mod Heard
+pub mod Brings
 pub mod Finished
 pub mod Gathered
 pub mod Idle

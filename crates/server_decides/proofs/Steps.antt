@@ -5,6 +5,7 @@ use Rattle.std.proofs.Common.{drop, get_or}
 use Rattle.std.proofs.lemmas.List.{drop_all, drop_more}
 use Rattle.std.proofs.Common.{refl, sym, ◌∙◌, ap, subst, arith}
 use Rattle.std.specs.Prelude.{◌-◌, Ok, remove}
+use Rattle.message_types.specs.declared.message.Message.{Message}
 use Rattle.store_memory.specs.Views.{IsSameStore, View}
 use Rattle.store_state.specs.declared.state.StoreState.{StoreState}
 use Rattle.server_says.specs.Keepers.{GoesOn, HasAsked, HasCome, HasStayed, HasTried, IsFit}
@@ -42,8 +43,8 @@ gone_tried v a b c left x y = record {
 }
 
 -- one that was only asked goes on
-pub went_asked : (old new : View) → new.state ≡ old.state → GoesOn old new
-went_asked old new same = λ from h. subst (λ (s : StoreState). HasCome from s) (sym same) h
+pub went_asked : (came : List Message) (old new : View) → new.state ≡ old.state → GoesOn came old new
+went_asked came old new same = λ from h. subst (λ (s : StoreState). HasCome came from s) (sym same) h
 
 pub stayed_none : (tells : Type 0) (a : View) → HasStayed tells a a
 stayed_none tells a = record {

@@ -1,5 +1,5 @@
 -- What a server's tables and its store are, whatever was done.
-use Rattle.std.specs.Prelude.{◌≡◌, true, is_some}
+use Rattle.std.specs.Prelude.{◌≡◌, List, true, is_some}
 use Rattle.base_types.specs.declared.ids.HostId.{HostId}
 use Rattle.base_types.specs.declared.ids.ServerId.{ServerId}
 use Rattle.tree_calls.specs.Rosters.{user_of}
@@ -14,6 +14,7 @@ use Rattle.store_state.specs.declared.state.StoreState.{StoreState}
 use Rattle.server_tables.specs.Counting.{IsCounted}
 use Rattle.server_tables.specs.declared.pending.Pending.{Pending}
 use Rattle.server_tables.specs.declared.tables.Tables.{Tables}
+use Rattle.server_says.specs.Keepers.{HasBrought}
 use Rattle.server_says.specs.Messages.{IsFor, IsStoreOf}
 
 -- a want that waits came in such a message, about a fileset that has never moved, and a Fetch wants what it says
@@ -32,3 +33,7 @@ pub record IsServed (x : Tables) (state : StoreState) : Type 0 where
   pub users : (host : HostId) → IsHost x.roster host → is_some (user_of x.roster host) ≡ true
   pub counted : IsCounted x
   pub asked : Each (λ (p : Pending). CameSo x.server x.roster p.wanted) x.pending
+
+-- each want that waits was brought by one of these messages
+abbrev pub AreBrought : List Message → List Pending → Type 0
+AreBrought came pendings = Each (λ (p : Pending). HasBrought came p.wanted.host (body_of p.wanted.request)) pendings

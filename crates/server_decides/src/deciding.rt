@@ -1,17 +1,19 @@
-ghost use Rattle.std.specs.Prelude.{◌≡◌, ◌<◌, ◌≤◌, ◌↔◌, Some, IfSome, IsTrue, IfOk, OnOk, length};
+ghost use Rattle.std.specs.Prelude.{◌≡◌, ◌<◌, ◌≤◌, ◌↔◌, Some, IfSome, IsTrue, IfOk, OnOk, List, length};
 ghost use Rattle.std.specs.List.{list_all};
 ghost use Rattle.base_types.specs.Ids.{same_fid};
+ghost use Rattle.message_types.specs.declared.message.Message.{Message as MessageOf};
 ghost use Rattle.run_rules.specs.ServerDecides.{refusal_of};
+ghost use Rattle.run_rules.specs.Wants.{body_of};
 ghost use Rattle.run_rules.specs.declared.applied.Request.TheVariants.{Change as Changes};
 ghost use Rattle.server_decides.specs.Deciding.{Decides, HasEffect, IsDecided, IsDecision, IsDoing, IsDueOf};
 ghost use Rattle.server_decides.specs.Deciding.{IsDueSo, IsMadeBy, IsNextDue, IsRefusing, MayBeDone, NoneDue};
 ghost use Rattle.server_decides.specs.Deciding.{accepted_by, anew_made, decision_by, due_by, is_fresh, is_of_row};
 ghost use Rattle.server_decides.specs.Deciding.{is_passed, is_waiting, still_fresh};
 ghost use Rattle.server_decides.specs.Saying.{SaysOn};
-ghost use Rattle.server_decides.specs.Serving.{CameSo, IsServed};
+ghost use Rattle.server_decides.specs.Serving.{AreBrought, CameSo, IsServed};
 ghost use Rattle.server_decides.specs.Running.{making};
 ghost use Rattle.server_says.specs.Running.{GoesTo};
-ghost use Rattle.server_says.specs.Keepers.{GoesOn, HasAsked, HasTried, IsFit};
+ghost use Rattle.server_says.specs.Keepers.{GoesOn, HasAsked, HasBrought, HasTried, IsFit};
 ghost use Rattle.server_tables.specs.Counting.{IsCounted};
 ghost use Rattle.server_tables.specs.Sound.{AreSound};
 ghost use Rattle.server_says.specs.Messages.{IsStoreOf};
@@ -63,7 +65,8 @@ pub(crate) fn decide_all<S: Store>(
     ensures says { AreSound tables.old → OnOk result (SaysOn tables.old draft.old tables.new draft.new) }
     ensures served { OnOk result (IsServed tables.new (S.view keeper.new.store).state) }
     ensures tried { HasTried result (S.view keeper.old.store) (S.view keeper.new.store) keeper.new.left }
-    ensures went { S.tells → GoesOn (S.view keeper.old.store) (S.view keeper.new.store) }
+    ensures went { S.tells → (came : List MessageOf) → AreBrought came tables.old.pending
+        → GoesOn came (S.view keeper.old.store) (S.view keeper.new.store) }
 {
     for _ in 0..rounds(tables.pending.len()) {
         let Some(due) = next_due(tables, keeper, draft.fresh)? else {
@@ -261,7 +264,8 @@ fn decide<S: Store>(
     ensures says { AreSound tables.old → OnOk result (SaysOn tables.old draft.old tables.new draft.new) }
     ensures served { OnOk result (IsServed tables.new (S.view keeper.new.store).state) }
     ensures tried { HasTried result (S.view keeper.old.store) (S.view keeper.new.store) keeper.new.left }
-    ensures went { S.tells → GoesOn (S.view keeper.old.store) (S.view keeper.new.store) }
+    ensures went { S.tells → (came : List MessageOf) → AreBrought came tables.old.pending
+        → GoesOn came (S.view keeper.old.store) (S.view keeper.new.store) }
 {
     let pending = tables.unqueue(due.at);
     make(tables, keeper, draft, pending, due.decision)
@@ -284,7 +288,9 @@ fn make<S: Store>(
     ensures says { AreSound tables.old → OnOk result (SaysOn tables.old draft.old tables.new draft.new) }
     ensures served { OnOk result (IsServed tables.new (S.view keeper.new.store).state) }
     ensures tried { HasTried result (S.view keeper.old.store) (S.view keeper.new.store) keeper.new.left }
-    ensures went { S.tells → GoesOn (S.view keeper.old.store) (S.view keeper.new.store) }
+    ensures went { S.tells → (came : List MessageOf) → HasBrought came pending.wanted.host
+        (body_of pending.wanted.request)
+        → GoesOn came (S.view keeper.old.store) (S.view keeper.new.store) }
 {
     match decision {
         Decision::Anew(needs) => Ok(make_anew(tables, draft, pending, needs)?),
@@ -309,7 +315,9 @@ fn refuse_want<S: Store>(
     ensures says { AreSound tables.old → OnOk result (SaysOn tables.old draft.old tables.new draft.new) }
     ensures served { OnOk result (IsServed tables.new (S.view keeper.new.store).state) }
     ensures tried { HasTried result (S.view keeper.old.store) (S.view keeper.new.store) keeper.new.left }
-    ensures went { S.tells → GoesOn (S.view keeper.old.store) (S.view keeper.new.store) }
+    ensures went { S.tells → (came : List MessageOf) → HasBrought came pending.wanted.host
+        (body_of pending.wanted.request)
+        → GoesOn came (S.view keeper.old.store) (S.view keeper.new.store) }
 {
     let refused = refuse(tables, keeper, draft, &pending.wanted, refusal);
     drop(pending);
@@ -332,7 +340,9 @@ fn do_want<S: Store>(
     ensures says { AreSound tables.old → OnOk result (SaysOn tables.old draft.old tables.new draft.new) }
     ensures served { OnOk result (IsServed tables.new (S.view keeper.new.store).state) }
     ensures tried { HasTried result (S.view keeper.old.store) (S.view keeper.new.store) keeper.new.left }
-    ensures went { S.tells → GoesOn (S.view keeper.old.store) (S.view keeper.new.store) }
+    ensures went { S.tells → (came : List MessageOf) → HasBrought came pending.wanted.host
+        (body_of pending.wanted.request)
+        → GoesOn came (S.view keeper.old.store) (S.view keeper.new.store) }
 {
     let done = do_now(tables, keeper, draft, &pending.wanted);
     drop(pending);
@@ -355,7 +365,8 @@ fn refuse<S: Store>(
     ensures says { AreSound tables.old → OnOk result (SaysOn tables.old draft.old tables.new draft.new) }
     ensures served { OnOk result (IsServed tables.new (S.view keeper.new.store).state) }
     ensures tried { HasTried result (S.view keeper.old.store) (S.view keeper.new.store) keeper.new.left }
-    ensures went { S.tells → GoesOn (S.view keeper.old.store) (S.view keeper.new.store) }
+    ensures went { S.tells → (came : List MessageOf) → HasBrought came wanted.now.host (body_of wanted.now.request)
+        → GoesOn came (S.view keeper.old.store) (S.view keeper.new.store) }
 {
     let Request::Change(change) = &wanted.request else {
         return Ok(());
@@ -381,7 +392,8 @@ fn do_now<S: Store>(
     ensures says { AreSound tables.old → OnOk result (SaysOn tables.old draft.old tables.new draft.new) }
     ensures served { OnOk result (IsServed tables.new (S.view keeper.new.store).state) }
     ensures tried { HasTried result (S.view keeper.old.store) (S.view keeper.new.store) keeper.new.left }
-    ensures went { S.tells → GoesOn (S.view keeper.old.store) (S.view keeper.new.store) }
+    ensures went { S.tells → (came : List MessageOf) → HasBrought came wanted.now.host (body_of wanted.now.request)
+        → GoesOn came (S.view keeper.old.store) (S.view keeper.new.store) }
 {
     let Request::Change(change) = &wanted.request else {
         return Ok(());

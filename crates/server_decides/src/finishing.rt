@@ -1,6 +1,9 @@
 ghost use Rattle.std.specs.List.{list_all};
-ghost use Rattle.std.specs.Prelude.{◌≡◌, ◌<◌, true, [], length, IfOk, IsTrue, OnOk};
+ghost use Rattle.std.specs.Prelude.{◌≡◌, ◌<◌, true, [], length, IfOk, IsTrue, List, OnOk};
+ghost use Rattle.message_types.specs.Soundness.{Each};
 ghost use Rattle.message_types.specs.declared.message.Body.TheVariants.{GiveBack};
+ghost use Rattle.message_types.specs.declared.message.Message.{Message as MessageOf};
+ghost use Rattle.run_rules.specs.Past.{In};
 ghost use Rattle.store_acts.specs.Acts.{state_after};
 ghost use Rattle.store_state.specs.declared.state.StoreState.{StoreState};
 ghost use Rattle.server_decides.specs.Deciding.{is_waiting, outlook_at};
@@ -10,8 +13,8 @@ ghost use Rattle.server_says.specs.Acts.{IsLimited};
 ghost use Rattle.server_tables.specs.Counting.{IsCounted};
 ghost use Rattle.server_decides.specs.Finishing.{IsFinished, IsTakenAndFinished};
 ghost use Rattle.server_decides.specs.Saying.{SaysOn};
-ghost use Rattle.server_decides.specs.Serving.{IsServed};
-ghost use Rattle.server_says.specs.Keepers.{GoesOn, HasTried, IsFit};
+ghost use Rattle.server_decides.specs.Serving.{AreBrought, IsServed};
+ghost use Rattle.server_says.specs.Keepers.{GoesOn, HasTried, IsDoneFor, IsFit};
 ghost use Rattle.server_tables.specs.Sound.{AreSound};
 ghost use Rattle.server_says.specs.Messages.{IsFor, is_request};
 
@@ -53,7 +56,13 @@ pub fn take_or_gather<S: Store>(
     ensures says { AreSound tables.old → OnOk result (SaysOn tables.old draft.old tables.new draft.new) }
     ensures served { OnOk result (IsServed tables.new (S.view keeper.new.store).state) }
     ensures tried { HasTried result (S.view keeper.old.store) (S.view keeper.new.store) keeper.new.left }
-    ensures went { S.tells → GoesOn (S.view keeper.old.store) (S.view keeper.new.store) }
+    ensures went { S.tells → (came : List MessageOf) → In message.now came → AreBrought came tables.old.pending
+        → Each (IsDoneFor came) waiting.old
+        → GoesOn came (S.view keeper.old.store) (S.view keeper.new.store) }
+    ensures brought { S.tells → (came : List MessageOf) → In message.now came → AreBrought came tables.old.pending
+        → OnOk result (AreBrought came tables.new.pending) }
+    ensures waits { (came : List MessageOf) → In message.now came → Each (IsDoneFor came) waiting.old
+        → OnOk result (Each (IsDoneFor came) waiting.new) }
 {
     if waiting.len() < GIVES_MAX && is_request(tables, message) {
         if let Body::GiveBack(give) = &message.body {
@@ -80,7 +89,10 @@ pub fn take_and_finish<S: Store>(
     ensures says { AreSound tables.old → OnOk result (SaysOn tables.old draft.old tables.new draft.new) }
     ensures served { OnOk result (IsServed tables.new (S.view keeper.new.store).state) }
     ensures tried { HasTried result (S.view keeper.old.store) (S.view keeper.new.store) keeper.new.left }
-    ensures went { S.tells → GoesOn (S.view keeper.old.store) (S.view keeper.new.store) }
+    ensures went { S.tells → (came : List MessageOf) → In message.now came → AreBrought came tables.old.pending
+        → GoesOn came (S.view keeper.old.store) (S.view keeper.new.store) }
+    ensures brought { S.tells → (came : List MessageOf) → In message.now came → AreBrought came tables.old.pending
+        → OnOk result (AreBrought came tables.new.pending) }
 {
     tables.tokens.laws();
     take_message(tables, keeper, draft, message)?;
@@ -115,7 +127,13 @@ fn gather_and_finish<S: Store>(
     ensures says { AreSound tables.old → OnOk result (SaysOn tables.old draft.old tables.new draft.new) }
     ensures served { OnOk result (IsServed tables.new (S.view keeper.new.store).state) }
     ensures tried { HasTried result (S.view keeper.old.store) (S.view keeper.new.store) keeper.new.left }
-    ensures went { S.tells → GoesOn (S.view keeper.old.store) (S.view keeper.new.store) }
+    ensures went { S.tells → (came : List MessageOf) → In message.now came → AreBrought came tables.old.pending
+        → Each (IsDoneFor came) waiting.old
+        → GoesOn came (S.view keeper.old.store) (S.view keeper.new.store) }
+    ensures brought { S.tells → (came : List MessageOf) → In message.now came → AreBrought came tables.old.pending
+        → OnOk result (AreBrought came tables.new.pending) }
+    ensures waits { (came : List MessageOf) → In message.now came → Each (IsDoneFor came) waiting.old
+        → OnOk result (Each (IsDoneFor came) waiting.new) }
 {
     tables.tokens.laws();
     gather_message(tables, keeper, waiting, draft, message, give)?;
@@ -137,7 +155,8 @@ pub fn store_all<S: Store>(
         ((S.view keeper.new.store).state ≡ state_after (S.view keeper.old.store).state waiting.old) }
     ensures none { OnOk result (waiting.new ≡ []) }
     ensures tried { HasTried result (S.view keeper.old.store) (S.view keeper.new.store) keeper.new.left }
-    ensures went { S.tells → GoesOn (S.view keeper.old.store) (S.view keeper.new.store) }
+    ensures went { S.tells → (came : List MessageOf) → Each (IsDoneFor came) waiting.old
+        → GoesOn came (S.view keeper.old.store) (S.view keeper.new.store) }
 {
     give_all(keeper, waiting.as_slice())?;
     waiting.truncate(0);
@@ -190,7 +209,10 @@ pub fn finish<S: Store>(
     ensures says { AreSound tables.old → OnOk result (SaysOn tables.old draft.old tables.new draft.new) }
     ensures served { OnOk result (IsServed tables.new (S.view keeper.new.store).state) }
     ensures tried { HasTried result (S.view keeper.old.store) (S.view keeper.new.store) keeper.new.left }
-    ensures went { S.tells → GoesOn (S.view keeper.old.store) (S.view keeper.new.store) }
+    ensures went { S.tells → (came : List MessageOf) → AreBrought came tables.old.pending
+        → GoesOn came (S.view keeper.old.store) (S.view keeper.new.store) }
+    ensures brought { S.tells → (came : List MessageOf) → AreBrought came tables.old.pending
+        → OnOk result (AreBrought came tables.new.pending) }
 {
     decide_all(tables, keeper, draft)?;
     admit_all(tables, draft)?;

@@ -8,6 +8,7 @@ use Rattle.base_types.specs.declared.ids.ServerId.{ServerId}
 use Rattle.tree_answers.specs.declared.tree.Tree.{Tree}
 use Rattle.tree_calls.specs.declared.roster.Roster.{Roster}
 use Rattle.message_types.specs.Soundness.{Each}
+use Rattle.message_types.specs.declared.message.Message.{Message}
 use Rattle.store_state.specs.declared.state.StoreState.{StoreState}
 use Rattle.token_manager.specs.Laws.{KeepsLaws}
 use Rattle.token_manager.proofs.Noting.{same_self}
@@ -28,7 +29,7 @@ use Rattle.server_tables.specs.declared.tables.Tables.{Tables}
 use Rattle.server_tables.proofs.Waiting.{Asking, asked, asked_all}
 use Rattle.server_decides.specs.Acting.{GivesBelow}
 use Rattle.server_exporter.specs.Machines.{FollowsAlone, IsSame, Keeps}
-use Rattle.server_decides.specs.Serving.{CameSo, IsServed}
+use Rattle.server_decides.specs.Serving.{AreBrought, CameSo, IsServed}
 use Rattle.server_decides.specs.Revoking.{askings, lapse_step, lapsing, owed}
 use Rattle.server_exporter.specs.declared.exporter.Exporter.{Exporter}
 use Rattle.server_exporter.proofs.Lapsed.{AreNumbered, lapse_follows}
@@ -159,3 +160,7 @@ module _ (r : Result Step NoMemory) (x y : Exporter) (t : Tables) (after : y ≡
 
   pub lapse_same : OnOk r (t ≡ (lapsing x.tables).tables) → OnOk r (IsSame x y)
   lapse_same f = on_ok r f (λ k. record { server = (beside k).server; roster = (beside k).roster })
+
+  pub lapse_brought : OnOk r (t ≡ (lapsing x.tables).tables) → (came : List Message)
+      → AreBrought came x.tables.pending → OnOk r (AreBrought came y.tables.pending)
+  lapse_brought f came all = on_ok r f (λ k. subst (AreBrought came) (sym (beside k).pending) all)

@@ -1,10 +1,13 @@
-ghost use Rattle.std.specs.Prelude.{◌≡◌, ◌↔◌, true, [], IfOk, IsTrue, OnOk};
+ghost use Rattle.std.specs.Prelude.{◌≡◌, ◌↔◌, true, [], IfOk, IsTrue, List, OnOk};
 ghost use Rattle.base_types.specs.declared.ids.Node.TheVariants.{Server};
+ghost use Rattle.message_types.specs.Soundness.{Each};
+ghost use Rattle.message_types.specs.declared.message.Message.{Message as MessageOf};
+ghost use Rattle.run_rules.specs.Past.{In};
 ghost use Rattle.run_rules.specs.Steps.{bare};
 ghost use Rattle.run_rules.specs.declared.step.Cause.TheVariants.{Flushed, Lapse, Line, Message as Came, Restart};
 ghost use Rattle.server_decides.specs.Acts.{IsLimited, epoch_begun};
 ghost use Rattle.server_decides.specs.Gathering.{AreGives, IsStoredOrSame};
-ghost use Rattle.server_decides.specs.Keepers.{GoesOn, HasTried, IsFit};
+ghost use Rattle.server_decides.specs.Keepers.{GoesOn, HasTried, IsDoneFor, IsFit};
 ghost use Rattle.server_tables.specs.Counting.{IsCounted};
 ghost use Rattle.server_tables.specs.Sound.{AreSound};
 ghost use Rattle.server_tables.specs.Updates.{begun};
@@ -27,7 +30,7 @@ ghost use Rattle.server_exporter.specs.Machines.{
   MeetsOnLine,
   Says,
 };
-ghost use Rattle.server_decides.specs.Serving.{IsServed};
+ghost use Rattle.server_decides.specs.Serving.{AreBrought, IsServed};
 
 use crate::stepping::step_if_stored;
 use base_types::{Items, NoMemory, ServerId};
@@ -119,7 +122,10 @@ impl Exporter {
         ensures same { OnOk result (IsSame self.old self.new) }
         ensures sound { AreSound self.old.tables → OnOk result (AreSound self.new.tables) }
         ensures tried { HasTried result (S.view keeper.old.store) (S.view keeper.new.store) keeper.new.left }
-        ensures went { S.tells → GoesOn (S.view keeper.old.store) (S.view keeper.new.store) }
+        ensures went { S.tells → (came : List MessageOf) → In message came → AreBrought came self.old.tables.pending
+            → GoesOn came (S.view keeper.old.store) (S.view keeper.new.store) }
+        ensures brought { S.tells → (came : List MessageOf) → In message came
+            → AreBrought came self.old.tables.pending → OnOk result (AreBrought came self.new.tables.pending) }
     {
         let server = self.tables.server;
         let mut draft = Draft::new(self.tables.alloc());
@@ -157,7 +163,13 @@ impl Exporter {
         ensures same { OnOk result (IsSame self.old self.new) }
         ensures sound { AreSound self.old.tables → OnOk result (AreSound self.new.tables) }
         ensures tried { HasTried result (S.view keeper.old.store) (S.view keeper.new.store) keeper.new.left }
-        ensures went { S.tells → GoesOn (S.view keeper.old.store) (S.view keeper.new.store) }
+        ensures went { S.tells → (came : List MessageOf) → In message came → AreBrought came self.old.tables.pending
+            → Each (IsDoneFor came) waiting.old
+            → GoesOn came (S.view keeper.old.store) (S.view keeper.new.store) }
+        ensures brought { S.tells → (came : List MessageOf) → In message came
+            → AreBrought came self.old.tables.pending → OnOk result (AreBrought came self.new.tables.pending) }
+        ensures waits { (came : List MessageOf) → In message came → Each (IsDoneFor came) waiting.old
+            → OnOk result (Each (IsDoneFor came) waiting.new) }
     {
         let server = self.tables.server;
         let mut draft = Draft::new(self.tables.alloc());
@@ -180,7 +192,10 @@ impl Exporter {
         ensures same { OnOk result (IsSame self.old self.new) }
         ensures sound { AreSound self.old.tables → OnOk result (AreSound self.new.tables) }
         ensures tried { HasTried result (S.view keeper.old.store) (S.view keeper.new.store) keeper.new.left }
-        ensures went { S.tells → GoesOn (S.view keeper.old.store) (S.view keeper.new.store) }
+        ensures went { S.tells → (came : List MessageOf) → AreBrought came self.old.tables.pending
+            → GoesOn came (S.view keeper.old.store) (S.view keeper.new.store) }
+        ensures brought { S.tells → (came : List MessageOf) → AreBrought came self.old.tables.pending
+            → OnOk result (AreBrought came self.new.tables.pending) }
     {
         let server = self.tables.server;
         let mut draft = Draft::new(self.tables.alloc());
@@ -202,6 +217,8 @@ impl Exporter {
             → OnOk result (IsServed self.new.tables state) }
         ensures keeps { (tree : Tree) (state : StoreState) → Keeps self.old.tables tree state
             → OnOk result (Keeps self.new.tables tree state) }
+        ensures brought { (came : List MessageOf) → AreBrought came self.old.tables.pending
+            → OnOk result (AreBrought came self.new.tables.pending) }
         ensures same { OnOk result (IsSame self.old self.new) }
         ensures sound { AreSound self.old.tables → OnOk result (AreSound self.new.tables) }
     {
@@ -237,7 +254,9 @@ impl Exporter {
         ensures same { OnOk result (IsSame self.old self.new) }
         ensures sound { AreSound self.old.tables → OnOk result (AreSound self.new.tables) }
         ensures tried { HasTried result (S.view keeper.old.store) (S.view keeper.new.store) keeper.new.left }
-        ensures went { S.tells → GoesOn (S.view keeper.old.store) (S.view keeper.new.store) }
+        ensures went { S.tells → (came : List MessageOf)
+            → GoesOn came (S.view keeper.old.store) (S.view keeper.new.store) }
+        ensures brought { (came : List MessageOf) → OnOk result (AreBrought came self.new.tables.pending) }
     {
         self.begin(keeper, line)
     }
@@ -251,7 +270,8 @@ impl Exporter {
             ≡ epoch_begun (S.view keeper.old.store).state) }
         ensures counted { IsCounted self.old.tables → OnOk result (IsCounted self.new.tables) }
         ensures tried { HasTried result (S.view keeper.old.store) (S.view keeper.new.store) keeper.new.left }
-        ensures went { S.tells → GoesOn (S.view keeper.old.store) (S.view keeper.new.store) }
+        ensures went { S.tells → (came : List MessageOf)
+            → GoesOn came (S.view keeper.old.store) (S.view keeper.new.store) }
     {
         self.tables.begin()?;
         self.rested = true;

@@ -26,7 +26,6 @@ use Rattle.store_acts.specs.declared.act.Act.TheVariants.{
 use Rattle.store_state.specs.declared.state.StoreState.{StoreState}
 use Rattle.server_keeps.proofs.Gaves.{IsStale, give_no_less, give_stale, stale_idle, stale_stays}
 use Rattle.server_looks.specs.Acts.{AreRepeatable, IsGive, IsLimited}
-use Rattle.server_looks.specs.Keepers.{IsOfRun}
 
 -- a give-back that changes nothing
 abbrev IsIdle : StoreState → Act → Type 0
@@ -127,21 +126,6 @@ all_fit (Back host number id refusal ∷ acts) state gives = absurd gives.0
 all_fit (Left id ∷ acts) state gives = absurd gives.0
 all_fit (Settle id ∷ acts) state gives = absurd gives.0
 all_fit (Part from ship id moves at part ∷ acts) state gives = absurd gives.0
-
--- a server gives them while it runs
-pub gives_run : (acts : List Act) → Each IsGive acts → Each IsOfRun acts
-gives_run [] gives = tt
-gives_run (Gives h n fid pieces given ∷ acts) gives = (tt, gives_run acts gives.1)
-gives_run (Boot ∷ acts) gives = absurd gives.0
-gives_run (Epoch ∷ acts) gives = absurd gives.0
-gives_run (Host host known ∷ acts) gives = absurd gives.0
-gives_run (Do host number call ∷ acts) gives = absurd gives.0
-gives_run (Refuse host id number refusal ∷ acts) gives = absurd gives.0
-gives_run (Leave id to ∷ acts) gives = absurd gives.0
-gives_run (Back host number id refusal ∷ acts) gives = absurd gives.0
-gives_run (Left id ∷ acts) gives = absurd gives.0
-gives_run (Settle id ∷ acts) gives = absurd gives.0
-gives_run (Part from ship id moves at part ∷ acts) gives = absurd gives.0
 
 -- give-backs that a store may be given
 record AreSo (state : StoreState) (acts : List Act) : Type 0 where

@@ -1,16 +1,24 @@
 -- How a server's machine asks its store, and gives it acts.
 use Rattle.std.specs.Prelude.{◌≡◌, ◌≤◌, ℕ, ◌+◌, ◌*◌, ◌^◌, IsTrue, List, Result, Ok, Err, OnOk}
 use Rattle.base_types.specs.Faults.{RoseBy}
+use Rattle.base_types.specs.declared.ids.HostId.{HostId}
 use Rattle.base_types.specs.declared.limits.TheConstants.{BATCH_ACTS_MAX}
 use Rattle.message_types.specs.Soundness.{Each}
+use Rattle.message_types.specs.declared.asking.Change.{Change as ChangeOf}
+use Rattle.message_types.specs.declared.giving.Give.{Give}
+use Rattle.message_types.specs.declared.message.Body.{Body}
+use Rattle.message_types.specs.declared.message.Body.TheVariants.{Change, GiveBack}
+use Rattle.message_types.specs.declared.message.Message.{Message}
+use Rattle.run_rules.specs.Past.{In}
 use Rattle.store_acts.specs.Acts.{state_after}
 use Rattle.store_acts.specs.Sound.{IsAct}
 use Rattle.store_acts.specs.declared.act.Act.{Act}
-use Rattle.store_acts.specs.declared.act.Act.TheVariants.{Do, Epoch, Give, Host, Refuse}
+use Rattle.store_acts.specs.declared.act.Act.TheVariants.{Do, Epoch, Give as Gives, Host, Refuse}
 use Rattle.store_memory.specs.Views.{IsSameStore, View}
 use Rattle.store_memory.specs.declared.store.StoreFault.{StoreFault}
 use Rattle.store_memory.specs.declared.store.StoreFault.TheVariants.{Failed, Memory as NoRoom}
 use Rattle.store_state.specs.declared.state.StoreState.{StoreState}
+use Rattle.server_looks.specs.Acts.{giving}
 use Rattle.server_looks.specs.declared.fault.ExporterFault.{ExporterFault}
 use Rattle.server_looks.specs.declared.fault.ExporterFault.TheVariants.{Memory, Store}
 
@@ -78,25 +86,37 @@ pub record HasMended {T : Type 0} (tells : Type 0) (result : Result T ExporterFa
     pub given : HasGiven result old new left
     pub state : tells → new.state ≡ old.state
 
--- an act of a server that runs: its epoch rises, a host is noted, a call is decided or refused, or what was given back
--- is stored; none by which a run begins, or a fileset moves
-abbrev pub IsOfRun : Act → Type 0
-IsOfRun Epoch = Unit {0}
-IsOfRun (Host host known) = Unit {0}
-IsOfRun (Do host number call) = Unit {0}
-IsOfRun (Refuse host id number refusal) = Unit {0}
-IsOfRun (Give host number fid pieces given) = Unit {0}
-IsOfRun _ = ⊥
+-- # What a server does for messages that came
 
--- What a store keeps has come from this by acts, some or none, that its server may do while it runs.
-pub record HasCome (from now : StoreState) : Type 0 where
+-- one of these messages is of this host
+abbrev pub HasWord : List Message → HostId → Type 0
+HasWord came host = (m : Message) × In m came × (m.host ≡ host)
+
+-- one of them is of this host, and brings this
+abbrev pub HasBrought : List Message → HostId → Body → Type 0
+HasBrought came host body = (m : Message) × In m came × (m.host ≡ host) × (m.body ≡ body)
+
+-- An act that a server does for one of these messages while it runs: what is known of its host is noted, the Change
+-- that it brings is done or refused, or what it gives back is stored. Or the server's epoch rises. It is none by which
+-- a run begins, or a fileset moves.
+abbrev pub IsDoneFor : List Message → Act → Type 0
+IsDoneFor came Epoch = Unit {0}
+IsDoneFor came (Host host known) = HasWord came host
+IsDoneFor came (Do host number call) = (c : ChangeOf) × HasBrought came host (Change c) × (c.call ≡ call)
+IsDoneFor came (Refuse host id number refusal) = (c : ChangeOf) × HasBrought came host (Change c) × (c.fileset ≡ id)
+IsDoneFor came (Gives host number fid pieces given) = (g : Give) × HasBrought came host (GiveBack g)
+    × (giving host g ≡ Gives host number fid pieces given)
+IsDoneFor came _ = ⊥
+
+-- What a store keeps has come from this by acts, some or none, that its server did for these messages.
+pub record HasCome (came : List Message) (from now : StoreState) : Type 0 where
   pub acts : List Act
   pub each : Each (IsAct from.roster from.server) acts
-  pub running : Each IsOfRun acts
+  pub done_for : Each (IsDoneFor came) acts
   pub server : now.server ≡ from.server
   pub roster : now.roster ≡ from.roster
   pub state : now ≡ state_after from acts
 
--- A store goes on so, whatever comes of a call: what came to be kept by its server's acts before has come so still.
-abbrev pub GoesOn : View → View → Type 0
-GoesOn old new = (from : StoreState) → HasCome from old.state → HasCome from new.state
+-- A store goes on so, whatever comes of a call: what came to be kept by such acts before has come so still.
+abbrev pub GoesOn : List Message → View → View → Type 0
+GoesOn came old new = (from : StoreState) → HasCome came from old.state → HasCome came from new.state

@@ -1,7 +1,11 @@
 ghost use Rattle.std.specs.Option.{option_copied};
-ghost use Rattle.std.specs.Prelude.{◌≡◌, ◌≤◌, ◌⊎◌, ◌↔◌, ℕ, length, take, unwrap_or, IsTrue, IfOk, OnOk, OnErr};
+ghost use Rattle.std.specs.Prelude.{◌≡◌, ◌≤◌, ◌⊎◌, ◌↔◌, ℕ, List, length, take, unwrap_or, IsTrue, IfOk, OnOk};
+ghost use Rattle.std.specs.Prelude.{OnErr};
 ghost use Rattle.store_state.specs.Rows.{itself, numbered_name};
 ghost use Rattle.message_types.specs.Soundness.{Each, IsCall, IsHost, IsReply};
+ghost use Rattle.message_types.specs.declared.asking.Change.{Change as ChangeOf};
+ghost use Rattle.message_types.specs.declared.message.Body.TheVariants.{Change};
+ghost use Rattle.message_types.specs.declared.message.Message.{Message as MessageOf};
 ghost use Rattle.store_acts.specs.Acts.{act_done, dones_of, state_after};
 ghost use Rattle.store_acts.specs.Sound.{AllFit, AreActs, Fits, HasName, IsAct, IsDecided, IsFor};
 ghost use Rattle.store_state.specs.declared.state.StoreState.{StoreState};
@@ -9,7 +13,16 @@ ghost use Rattle.store_acts.specs.declared.act.Act.TheVariants.{Do};
 ghost use Rattle.tree_calls.specs.declared.reply.Reply.TheVariants.{Refused};
 ghost use Rattle.server_looks.specs.Acts.{AreRepeatable, IsGive, IsRepeatable, doing, epoch_begun, first_reply};
 ghost use Rattle.server_looks.specs.Acts.{giving, host_noted, next_number, numbered_at, refusing};
-ghost use Rattle.server_looks.specs.Keepers.{GoesOn, HasAsked, HasGiven, HasTried, IsFit, IsOfRun};
+ghost use Rattle.server_looks.specs.Keepers.{
+  GoesOn,
+  HasAsked,
+  HasBrought,
+  HasGiven,
+  HasTried,
+  HasWord,
+  IsDoneFor,
+  IsFit,
+};
 
 use crate::fault::ExporterFault;
 use crate::keeper::Keeper;
@@ -20,7 +33,6 @@ use tree_calls::{Call, Refusal, Reply};
 
 /// The reply to the call of a host, which is done. It is numbered at the store behind those of the host that were done
 /// before.
-#[tactic(auto, using(crate::proofs::Came::went_then, crate::proofs::Came::went_idle))]
 pub fn do_call<S: Store>(
     keeper: &mut Keeper<S>,
     host: HostId,
@@ -39,7 +51,9 @@ pub fn do_call<S: Store>(
         S.tells → IsRepeatable state act
         → OnOk result ((S.view keeper.new.store).state ≡ (act_done state act).state) }
     ensures tried { HasTried result (S.view keeper.old.store) (S.view keeper.new.store) keeper.new.left }
-    ensures went { S.tells → GoesOn (S.view keeper.old.store) (S.view keeper.new.store) }
+    ensures went { S.tells → (came : List MessageOf) → (c : ChangeOf) → HasBrought came host (Change c) → c.call
+        ≡ call.now
+        → GoesOn came (S.view keeper.old.store) (S.view keeper.new.store) }
 {
     if !has_name(call) {
         return Err(ExporterFault::Memory);
@@ -51,7 +65,6 @@ pub fn do_call<S: Store>(
 }
 
 /// The reply to the call of a host, which is refused. It is noted under a fileset.
-#[tactic(auto, using(crate::proofs::Came::went_then, crate::proofs::Came::went_idle))]
 pub fn refuse_call<S: Store>(
     keeper: &mut Keeper<S>,
     host: HostId,
@@ -65,7 +78,9 @@ pub fn refuse_call<S: Store>(
         S.tells → IsRepeatable state act
         → OnOk result ((S.view keeper.new.store).state ≡ (act_done state act).state) }
     ensures tried { HasTried result (S.view keeper.old.store) (S.view keeper.new.store) keeper.new.left }
-    ensures went { S.tells → GoesOn (S.view keeper.old.store) (S.view keeper.new.store) }
+    ensures went { S.tells → (came : List MessageOf) → (c : ChangeOf) → HasBrought came host (Change c) → c.fileset
+        ≡ fileset
+        → GoesOn came (S.view keeper.old.store) (S.view keeper.new.store) }
 {
     let number = next_number(keeper, host, fileset)?;
     let act = Act::Refuse {
@@ -80,7 +95,6 @@ pub fn refuse_call<S: Store>(
 
 /// Stores what hosts have given back, in this order; nothing is written where there is none. Where the disk fails the
 /// store is opened anew, and all given once more.
-#[tactic(auto, using(crate::proofs::Came::went_then, crate::proofs::Came::went_idle))]
 pub fn give_all<S: Store>(keeper: &mut Keeper<S>, gives: &[Act]) -> Result<(), ExporterFault>
     requires gives { Each IsGive gives.now }
     requires acts { AreActs (S.view keeper.old.store).state.roster (S.view keeper.old.store).state.server gives.now }
@@ -88,7 +102,8 @@ pub fn give_all<S: Store>(keeper: &mut Keeper<S>, gives: &[Act]) -> Result<(), E
     ensures state { S.tells → AreRepeatable (S.view keeper.old.store).state gives.now
         → OnOk result ((S.view keeper.new.store).state ≡ state_after (S.view keeper.old.store).state gives.now) }
     ensures tried { HasTried result (S.view keeper.old.store) (S.view keeper.new.store) keeper.new.left }
-    ensures went { S.tells → GoesOn (S.view keeper.old.store) (S.view keeper.new.store) }
+    ensures went { S.tells → (came : List MessageOf) → Each (IsDoneFor came) gives.now
+        → GoesOn came (S.view keeper.old.store) (S.view keeper.new.store) }
 {
     if gives.is_empty() {
         return Ok(());
@@ -107,7 +122,6 @@ pub fn give_all<S: Store>(keeper: &mut Keeper<S>, gives: &[Act]) -> Result<(), E
 }
 
 /// Notes what is known of a host.
-#[tactic(auto, using(crate::proofs::Came::went_then, crate::proofs::Came::went_idle))]
 pub fn note_host<S: Store>(
     keeper: &mut Keeper<S>,
     host: HostId,
@@ -118,20 +132,21 @@ pub fn note_host<S: Store>(
     ensures state { S.tells → OnOk result ((S.view keeper.new.store).state
         ≡ host_noted (S.view keeper.old.store).state host state) }
     ensures tried { HasTried result (S.view keeper.old.store) (S.view keeper.new.store) keeper.new.left }
-    ensures went { S.tells → GoesOn (S.view keeper.old.store) (S.view keeper.new.store) }
+    ensures went { S.tells → (came : List MessageOf) → HasWord came host
+        → GoesOn came (S.view keeper.old.store) (S.view keeper.new.store) }
 {
     drop(apply_one(keeper, Act::Host { host, state })?);
     Ok(())
 }
 
 /// The server starts anew: its epoch rises. Where the disk fails the store's epoch tells whether it has risen.
-#[tactic(auto, using(crate::proofs::Came::went_then, crate::proofs::Came::went_idle))]
 pub fn begin_epoch<S: Store>(keeper: &mut Keeper<S>) -> Result<(), ExporterFault>
     requires fit { IsFit (S.view keeper.old.store) keeper.old.left }
     ensures state { S.tells → OnOk result ((S.view keeper.new.store).state
         ≡ epoch_begun (S.view keeper.old.store).state) }
     ensures tried { HasTried result (S.view keeper.old.store) (S.view keeper.new.store) keeper.new.left }
-    ensures went { S.tells → GoesOn (S.view keeper.old.store) (S.view keeper.new.store) }
+    ensures went { S.tells → (came : List MessageOf)
+        → GoesOn came (S.view keeper.old.store) (S.view keeper.new.store) }
 {
     let epoch = keeper.store.epoch();
     match begin_once(keeper) {
@@ -157,7 +172,6 @@ fn has_name(call: &Call) -> bool
     }
 }
 
-#[tactic(auto, using(crate::proofs::Came::went_then, crate::proofs::Came::went_idle))]
 fn begin_once<S: Store>(keeper: &mut Keeper<S>) -> Result<(), ExporterFault>
     requires fit { IsFit (S.view keeper.old.store) keeper.old.left }
     ensures state { S.tells → OnOk result ((S.view keeper.new.store).state
@@ -165,7 +179,8 @@ fn begin_once<S: Store>(keeper: &mut Keeper<S>) -> Result<(), ExporterFault>
     ensures fault { S.tells → OnErr result (((S.view keeper.new.store).state ≡ (S.view keeper.old.store).state)
         ⊎ ((S.view keeper.new.store).state ≡ epoch_begun (S.view keeper.old.store).state)) }
     ensures given { HasGiven result (S.view keeper.old.store) (S.view keeper.new.store) keeper.new.left }
-    ensures went { S.tells → GoesOn (S.view keeper.old.store) (S.view keeper.new.store) }
+    ensures went { S.tells → (came : List MessageOf)
+        → GoesOn came (S.view keeper.old.store) (S.view keeper.new.store) }
 {
     drop(apply_batch(keeper, &[Act::Epoch])?);
     Ok(())
@@ -258,10 +273,8 @@ fn numbered_name(call: &Call) -> Option<&Name>
 }
 
 /// Does one act, and answers the reply. Where the disk fails the store is opened anew, and the act given once more.
-#[tactic(auto, using(crate::proofs::Came::went_then, crate::proofs::Came::went_idle))]
 fn apply_one<S: Store>(keeper: &mut Keeper<S>, act: Act) -> Result<Reply, ExporterFault>
     requires act { IsAct (S.view keeper.old.store).state.roster (S.view keeper.old.store).state.server act }
-    requires running { IsOfRun act }
     requires fits { (state : StoreState) → Fits state act }
     requires fit { IsFit (S.view keeper.old.store) keeper.old.left }
     ensures reply { S.tells → IsRepeatable (S.view keeper.old.store).state act
@@ -270,7 +283,8 @@ fn apply_one<S: Store>(keeper: &mut Keeper<S>, act: Act) -> Result<Reply, Export
         → OnOk result ((S.view keeper.new.store).state ≡ (act_done (S.view keeper.old.store).state act).state) }
     ensures sound { IfOk result IsReply }
     ensures tried { HasTried result (S.view keeper.old.store) (S.view keeper.new.store) keeper.new.left }
-    ensures went { S.tells → GoesOn (S.view keeper.old.store) (S.view keeper.new.store) }
+    ensures went { S.tells → (came : List MessageOf) → IsDoneFor came act
+        → GoesOn came (S.view keeper.old.store) (S.view keeper.new.store) }
 {
     let batch = [act];
     match apply_batch(keeper, &batch) {
@@ -285,7 +299,6 @@ fn apply_one<S: Store>(keeper: &mut Keeper<S>, act: Act) -> Result<Reply, Export
 #[tactic(auto, using(crate::proofs::Came::went_kept))]
 fn apply_batch<S: Store>(keeper: &mut Keeper<S>, batch: &[Act]) -> Result<Reply, ExporterFault>
     requires acts { AreActs (S.view keeper.old.store).state.roster (S.view keeper.old.store).state.server batch.now }
-    requires running { Each IsOfRun batch.now }
     requires fits { (state : StoreState) → AllFit state batch.now }
     requires fit { IsFit (S.view keeper.old.store) keeper.old.left }
     ensures reply { S.tells → AllFit (S.view keeper.old.store).state batch.now
@@ -297,7 +310,8 @@ fn apply_batch<S: Store>(keeper: &mut Keeper<S>, batch: &[Act]) -> Result<Reply,
         × ((S.view keeper.new.store).state ≡ state_after (S.view keeper.old.store).state (take k batch.now))) }
     ensures sound { IfOk result IsReply }
     ensures given { HasGiven result (S.view keeper.old.store) (S.view keeper.new.store) keeper.new.left }
-    ensures went { S.tells → GoesOn (S.view keeper.old.store) (S.view keeper.new.store) }
+    ensures went { S.tells → (came : List MessageOf) → Each (IsDoneFor came) batch.now
+        → GoesOn came (S.view keeper.old.store) (S.view keeper.new.store) }
 {
     keeper.spend()?;
     let dones = keeper.store.apply(batch)?;

@@ -1,3 +1,4 @@
+pub mod Broken
 pub mod Kept
 pub mod Staying
 pub mod Standing

@@ -653,7 +653,6 @@ module _ {S : Type 0} (tells : Type 0) (view : S → View) (n m : ServerNode S) 
   pub kept_stays : m ≡ record n { inbox = m.inbox } → HasServed tells view n m
   kept_stays rest = subst (λ (z : ServerNode S). HasServed tells view n z) (sym rest) (record {
     same = record { server = refl; roster = refl };
-    went = (λ t from h. h);
     counted = omega arith;
     mendable = (λ is. is);
     worn = (λ w. w);

@@ -22,7 +22,6 @@ module _ {S : Type 0} (tells : Type 0) (view : S → View) where
   pub stays_so : (n : ServerNode S) → HasServed tells view n n
   stays_so n = record {
     same = record { server = refl; roster = refl };
-    went = (λ t from h. h);
     counted = omega arith;
     mendable = (λ m. m);
     worn = (λ w. w);
@@ -31,7 +30,6 @@ module _ {S : Type 0} (tells : Type 0) (view : S → View) where
   pub stays_on : (a b c : ServerNode S) → HasServed tells view a b → HasServed tells view b c → HasServed tells view a c
   stays_on a b c h k = record {
     same = record { server = k.same.server ∙ h.same.server; roster = k.same.roster ∙ h.same.roster };
-    went = (λ t from x. k.went t from (h.went t from x));
     counted = (let x = h.counted in let y = k.counted in omega arith);
     mendable = (λ m. k.mendable (h.mendable m));
     worn = (λ w. k.worn (h.worn w));

@@ -11,6 +11,7 @@ use Rattle.message_types.specs.declared.message.Direction.TheVariants.{ToServer}
 use Rattle.message_types.specs.declared.message.Message.{Message}
 use Rattle.script_lines.specs.Sound.{IsSound, same_node}
 use Rattle.script_lines.specs.declared.script.Line.{Line}
+use Rattle.store_laws.specs.TreeKeeping.{KeepsOf}
 use Rattle.store_memory.specs.Views.{IsSameStore, View}
 use Rattle.store_state.specs.declared.state.StoreState.{StoreState}
 use Rattle.run_rules.specs.Doings.{Doing, doings_of}
@@ -18,20 +19,23 @@ use Rattle.run_rules.specs.Kept.{filesets_first, filesets_kept}
 use Rattle.run_rules.specs.Past.{In, appended}
 use Rattle.run_rules.specs.Plans.{receiver}
 use Rattle.run_rules.specs.Steps.{lines_gone, lines_of}
+use Rattle.run_rules.specs.Wants.{IsQueued, body_of}
+use Rattle.run_rules.specs.declared.applied.Wanted.{Wanted}
 use Rattle.run_rules.specs.declared.step.Step.{Step}
 use Rattle.hub_board.specs.declared.given.Given.{Given}
 use Rattle.hub_board.specs.declared.given.Given.TheVariants.{Message as Came}
-use Rattle.hub_laws.specs.Keeping.{Round, WasTold, steps_in}
+use Rattle.hub_laws.specs.Keeping.{Round, WasTold, messages_given, messages_taken, steps_in}
+use Rattle.hub_laws.specs.Taking.{Embeds}
 use Rattle.hub_node.specs.Keeping.{HasKeptOn}
 use Rattle.hub_node.specs.Lines.{LinesView, next_of}
 use Rattle.hub_node.specs.Nodes.{Beginning, Part, first_at}
 use Rattle.hub_node.specs.declared.node.NodeFault.{NodeFault}
 use Rattle.hub_node.specs.declared.node.NodeFault.TheVariants.{Store as StoreFailed}
 use Rattle.server_exporter.specs.Messages.{IsFor as IsForServer}
-use Rattle.server_exporter.specs.Serving.{IsServed}
+use Rattle.server_exporter.specs.Serving.{AreBrought, IsServed}
 use Rattle.server_exporter.specs.Machines.{IsAt, Keeps}
 pub use Rattle.server_exporter.specs.Keepers.{HasCome}
-use Rattle.server_exporter.specs.Keepers.{FailedTwice, GoesOn, IsFit, IsWorn}
+use Rattle.server_exporter.specs.Keepers.{FailedTwice, IsFit, IsWorn}
 use Rattle.server_tables.specs.Sound.{AreSound}
 use Rattle.server_tables.specs.declared.tables.Tables.{Tables}
 use Rattle.server_node.specs.declared.server.ServerNode.{ServerNode}
@@ -72,6 +76,19 @@ abbrev pub latest_first : List Message → List Message
 latest_first [] = []
 latest_first (m ∷ ms) = latest_first ms ++ m ∷ []
 
+-- some messages are all among these
+abbrev pub AreIn : List Message → List Message → Type 0
+AreIn came ms = Each (λ (m : Message). In m came) ms
+
+-- of these messages are all that a server has before it: each want that waits was brought by one, and each that is kept
+-- is one
+abbrev pub HasAllOf : {S : Type 0} → List Message → ServerNode S → Type 0
+HasAllOf came n = AreBrought came n.exporter.tables.pending × AreIn came n.inbox
+
+-- a want that waits was brought by such a message
+abbrev pub IsOfWant : List Doing → Message → Type 0
+IsOfWant past m = (w : Wanted) × IsQueued past w × (w.host ≡ m.host) × (body_of w.request ≡ m.body)
+
 module _ {S : Type 0} (tells : Type 0) (view : S → View) where
   -- its store may be asked, and is that of its machine, which says only what is sound
   pub record IsReady (n : ServerNode S) : Type 0 where
@@ -109,11 +126,10 @@ module _ {S : Type 0} (tells : Type 0) (view : S → View) where
     pub theirs : AreTheirs n.exporter.tables n.inbox
     pub so : StandsSo part n past made (latest_first n.inbox) 0
 
-  -- Whatever it does, its store is for the same server and has done acts of it alone, the disk's count of faults
-  -- doesn't fall, and the store may be opened anew and isn't worn out, as it was before.
+  -- Whatever it does, its store is for the same server, the disk's count of faults doesn't fall, and the store may be
+  -- opened anew and isn't worn out, as it was before.
   pub record HasServed (old new : ServerNode S) : Type 0 where
     pub same : IsSameStore (view old.keeper.store) (view new.keeper.store)
-    pub went : tells → GoesOn (view old.keeper.store) (view new.keeper.store)
     pub counted : (view old.keeper.store).faults ≤ (view new.keeper.store).faults
     pub mendable : (view old.keeper.store).mendable → (view new.keeper.store).mendable
     pub worn : IsWorn (view old.keeper.store) old.keeper.left → IsWorn (view new.keeper.store) new.keeper.left
@@ -126,6 +142,24 @@ module _ {S : Type 0} (tells : Type 0) (view : S → View) where
   pub record HasFailedBy (fault : NodeFault) (old new : ServerNode S) : Type 0 where
     pub served : HasServed old new
     pub store : fault ≡ StoreFailed → HasFailed old new
+
+-- A store keeps what its server keeps by the rules after its own steps, and then what was done for requests that it
+-- hasn't answered: for messages that were given to it and that none of these steps took, and for those of the wants
+-- that wait behind them.
+pub record HasDoneMore (run : Beginning) (server : ServerId) (own : List Step) (given : List Message)
+    (state : StoreState) : Type 0 where
+  pub kept : StoreState
+  pub keeps : KeepsOf (kept_in run server own) kept
+  pub came : List Message
+  pub untaken : Embeds (came ++ messages_taken own) given
+  pub asked : List Message
+  pub waits : (m : Message) → In m asked → IsOfWant (doings_in run server own) m
+  pub come : HasCome (came ++ asked) kept state
+
+-- so it is with a server where something failed in the newest of these rounds, as far as its store tells what it keeps
+abbrev pub HasBroken : {S : Type 0} → Type 0 → (S → View) → Part → ServerNode S → List Round → Type 0
+HasBroken tells view part n past = tells
+    → HasDoneMore part.run (server_of part.node) (steps_in past) (messages_given past) (view n.keeper.store).state
 
 -- the newest round gave this
 abbrev pub WasGiven : List Round → Given → Type 0

@@ -6,9 +6,10 @@ ghost use Rattle.hub_board.specs.declared.given.Turned.TheVariants.{Ended, Idle,
 ghost use Rattle.hub_laws.specs.Keeping.{Round, lapse_in, message_in};
 ghost use Rattle.hub_node.specs.Nodes.{Beginning, Part, part_of};
 ghost use Rattle.hub_node.specs.declared.node.NodeFault.TheVariants.{Memory, Store as StoreFailed};
-ghost use Rattle.message_types.specs.Soundness.{IsSound};
+ghost use Rattle.message_types.specs.Soundness.{Each, IsSound};
 ghost use Rattle.message_types.specs.declared.message.Message.{Message as MessageOf};
 ghost use Rattle.message_types.specs.declared.message.Direction.TheVariants.{ToServer};
+ghost use Rattle.run_rules.specs.Past.{In};
 ghost use Rattle.run_rules.specs.Plans.{receiver};
 ghost use Rattle.run_rules.specs.Steps.{lines_of};
 ghost use Rattle.script_lines.specs.Sound.{same_node};
@@ -17,7 +18,18 @@ ghost use Rattle.server_exporter.specs.Machines.{IsNew, IsNoRestart, IsRestart};
 ghost use Rattle.server_exporter.specs.ExporterFault.TheVariants.{Store as OfStore};
 ghost use Rattle.server_exporter.specs.Acts.{IsLimited};
 ghost use Rattle.server_exporter.specs.Gathering.{AreGives};
-ghost use Rattle.server_node.specs.Standing.{AreTheirs, CanServe, HasFailed, HasServed, IsFor, IsGiveBackTo, IsReady};
+ghost use Rattle.server_exporter.specs.Keepers.{GoesOn, IsDoneFor};
+ghost use Rattle.server_node.specs.Standing.{
+  AreIn,
+  AreTheirs,
+  CanServe,
+  HasAllOf,
+  HasFailed,
+  HasServed,
+  IsFor,
+  IsGiveBackTo,
+  IsReady,
+};
 ghost use Rattle.server_node.specs.Standing.{NextIs, Stands, StandsAt, StandsSo, WasGiven, latest_first};
 ghost use Rattle.store_acts.specs.Acts.{state_after};
 ghost use Rattle.server_tables.specs.Listing.{is_alone};
@@ -128,6 +140,10 @@ impl<'a, S: Store + Drop> ServerNode<'a, S> {
             → StandsSo S.tells S.view part self.old past steps.old.steps came lapses
             → OnOk result (StandsSo S.tells S.view part self.new past steps.new.steps came lapses) }
         ensures inbox { self.new.inbox ≡ self.old.inbox }
+        ensures went { S.tells → (came : List MessageOf) → HasAllOf came self.old
+            → GoesOn came (S.view self.old.keeper.store) (S.view self.new.keeper.store) }
+        ensures all { S.tells → (came : List MessageOf) → HasAllOf came self.old
+            → OnOk result (HasAllOf came self.new) }
         ensures stays { HasServed S.tells S.view self.old self.new }
         ensures failed { result ≡ Err StoreFailed → HasFailed S.tells S.view self.old self.new }
     {
@@ -151,6 +167,10 @@ impl<'a, S: Store + Drop> ServerNode<'a, S> {
             → StandsSo S.tells S.view part self.old past steps.old.steps came lapses
             → OnOk result (StandsSo S.tells S.view part self.new past steps.new.steps came lapses) }
         ensures inbox { self.new.inbox ≡ self.old.inbox }
+        ensures went { S.tells → (came : List MessageOf) → HasAllOf came self.old
+            → GoesOn came (S.view self.old.keeper.store) (S.view self.new.keeper.store) }
+        ensures all { S.tells → (came : List MessageOf) → HasAllOf came self.old
+            → OnOk result (HasAllOf came self.new) }
         ensures stays { HasServed S.tells S.view self.old self.new }
         ensures failed { result ≡ Err StoreFailed → HasFailed S.tells S.view self.old self.new }
     {
@@ -168,6 +188,10 @@ impl<'a, S: Store + Drop> ServerNode<'a, S> {
             (message_in (Some given)) (lapse_in (Some given)) → WasGiven past given
             → OnOk result (StandsSo S.tells S.view part self.new past steps.new.steps [] 0) }
         ensures inbox { self.new.inbox ≡ self.old.inbox }
+        ensures went { S.tells → (came : List MessageOf) → HasAllOf came self.old → AreIn came (message_in (Some given))
+            → GoesOn came (S.view self.old.keeper.store) (S.view self.new.keeper.store) }
+        ensures all { S.tells → (came : List MessageOf) → HasAllOf came self.old → AreIn came (message_in (Some given))
+            → OnOk result (HasAllOf came self.new) }
         ensures stays { HasServed S.tells S.view self.old self.new }
         ensures failed { result ≡ Err StoreFailed → HasFailed S.tells S.view self.old self.new }
     {
@@ -193,6 +217,10 @@ impl<'a, S: Store + Drop> ServerNode<'a, S> {
             → StandsSo S.tells S.view part self.old past steps.old.steps (message ∷ []) 0
             → OnOk result (StandsSo S.tells S.view part self.new past steps.new.steps [] 0) }
         ensures inbox { self.new.inbox ≡ self.old.inbox }
+        ensures went { S.tells → (came : List MessageOf) → HasAllOf came self.old → In message came
+            → GoesOn came (S.view self.old.keeper.store) (S.view self.new.keeper.store) }
+        ensures all { S.tells → (came : List MessageOf) → HasAllOf came self.old → In message came
+            → OnOk result (HasAllOf came self.new) }
         ensures stays { HasServed S.tells S.view self.old self.new }
         ensures failed { result ≡ Err StoreFailed → HasFailed S.tells S.view self.old self.new }
     {
@@ -213,6 +241,10 @@ impl<'a, S: Store + Drop> ServerNode<'a, S> {
             → StandsSo S.tells S.view part self.old past steps.old.steps [] 1
             → OnOk result (StandsSo S.tells S.view part self.new past steps.new.steps [] 0) }
         ensures inbox { self.new.inbox ≡ self.old.inbox }
+        ensures went { S.tells → (came : List MessageOf) → HasAllOf came self.old
+            → GoesOn came (S.view self.old.keeper.store) (S.view self.new.keeper.store) }
+        ensures all { S.tells → (came : List MessageOf) → HasAllOf came self.old
+            → OnOk result (HasAllOf came self.new) }
         ensures stays { HasServed S.tells S.view self.old self.new }
         ensures failed { result ≡ Err StoreFailed → HasFailed S.tells S.view self.old self.new }
     {
@@ -229,6 +261,10 @@ impl<'a, S: Store + Drop> ServerNode<'a, S> {
             → StandsSo S.tells S.view part self.old past steps.old.steps [] 0
             → OnOk result (StandsSo S.tells S.view part self.new past steps.new.steps [] 0) }
         ensures inbox { self.new.inbox ≡ self.old.inbox }
+        ensures went { S.tells → (came : List MessageOf) → HasAllOf came self.old
+            → GoesOn came (S.view self.old.keeper.store) (S.view self.new.keeper.store) }
+        ensures all { S.tells → (came : List MessageOf) → HasAllOf came self.old
+            → OnOk result (HasAllOf came self.new) }
         ensures stays { HasServed S.tells S.view self.old self.new }
         ensures failed { result ≡ Err StoreFailed → HasFailed S.tells S.view self.old self.new }
     {
@@ -252,6 +288,10 @@ impl<'a, S: Store + Drop> ServerNode<'a, S> {
             → StandsSo S.tells S.view part self.old past steps.old.steps [] 0
             → OnOk result (StandsSo S.tells S.view part self.new past steps.new.steps [] 0) }
         ensures inbox { self.new.inbox ≡ self.old.inbox }
+        ensures went { S.tells → (came : List MessageOf) → HasAllOf came self.old
+            → GoesOn came (S.view self.old.keeper.store) (S.view self.new.keeper.store) }
+        ensures all { S.tells → (came : List MessageOf) → HasAllOf came self.old
+            → OnOk result (HasAllOf came self.new) }
         ensures stays { HasServed S.tells S.view self.old self.new }
         ensures failed { result ≡ Err StoreFailed → HasFailed S.tells S.view self.old self.new }
     {
@@ -270,6 +310,10 @@ impl<'a, S: Store + Drop> ServerNode<'a, S> {
             → StandsSo S.tells S.view part self.old past steps.old.steps [] 0
             → OnOk result (StandsSo S.tells S.view part self.new past steps.new.steps [] 0) }
         ensures inbox { self.new.inbox ≡ self.old.inbox }
+        ensures went { S.tells → (came : List MessageOf) → HasAllOf came self.old
+            → GoesOn came (S.view self.old.keeper.store) (S.view self.new.keeper.store) }
+        ensures all { S.tells → (came : List MessageOf) → HasAllOf came self.old
+            → OnOk result (HasAllOf came self.new) }
         ensures stays { HasServed S.tells S.view self.old self.new }
         ensures failed { result ≡ Err StoreFailed → HasFailed S.tells S.view self.old self.new }
     {
@@ -289,6 +333,10 @@ impl<'a, S: Store + Drop> ServerNode<'a, S> {
             (message_in given) (lapse_in given) → IfSome given (WasGiven past)
             → OnOk result (StandsSo S.tells S.view part self.new past steps.new.steps [] 0) }
         ensures inbox { self.new.inbox ≡ self.old.inbox }
+        ensures went { S.tells → (came : List MessageOf) → HasAllOf came self.old → AreIn came (message_in given)
+            → GoesOn came (S.view self.old.keeper.store) (S.view self.new.keeper.store) }
+        ensures all { S.tells → (came : List MessageOf) → HasAllOf came self.old → AreIn came (message_in given)
+            → OnOk result (HasAllOf came self.new) }
         ensures stays { HasServed S.tells S.view self.old self.new }
         ensures failed { result ≡ Err StoreFailed → HasFailed S.tells S.view self.old self.new }
     {
@@ -312,6 +360,10 @@ impl<'a, S: Store + Drop> ServerNode<'a, S> {
             (message_in given) (lapse_in given) → IfSome given (WasGiven past)
             → OnOk result (StandsSo S.tells S.view part self.new past steps.new.steps [] 0) }
         ensures inbox { self.new.inbox ≡ self.old.inbox }
+        ensures went { S.tells → (came : List MessageOf) → HasAllOf came self.old → AreIn came (message_in given)
+            → GoesOn came (S.view self.old.keeper.store) (S.view self.new.keeper.store) }
+        ensures all { S.tells → (came : List MessageOf) → HasAllOf came self.old → AreIn came (message_in given)
+            → OnOk result (HasAllOf came self.new) }
         ensures stays { HasServed S.tells S.view self.old self.new }
         ensures failed { result ≡ Err StoreFailed → HasFailed S.tells S.view self.old self.new }
     {
@@ -331,6 +383,10 @@ impl<'a, S: Store + Drop> ServerNode<'a, S> {
             → StandsSo S.tells S.view part self.old past steps.old.steps [] 0
             → OnOk result (StandsSo S.tells S.view part self.new past steps.new.steps [] 0) }
         ensures inbox { self.new.inbox ≡ self.old.inbox }
+        ensures went { S.tells → (came : List MessageOf) → HasAllOf came self.old
+            → GoesOn came (S.view self.old.keeper.store) (S.view self.new.keeper.store) }
+        ensures all { S.tells → (came : List MessageOf) → HasAllOf came self.old
+            → OnOk result (HasAllOf came self.new) }
         ensures stays { HasServed S.tells S.view self.old self.new }
         ensures failed { result ≡ Err StoreFailed → HasFailed S.tells S.view self.old self.new }
     {
@@ -353,6 +409,10 @@ impl<'a, S: Store + Drop> ServerNode<'a, S> {
         ensures works { (part : Part) (past : List Round) → StandsSo S.tells S.view part self.old past steps.old.steps
             (message_in given ++ latest_first self.old.inbox) (lapse_in given) → IfSome given (WasGiven past)
             → OnOk result (StandsSo S.tells S.view part self.new past steps.new.steps (latest_first self.new.inbox) 0) }
+        ensures went { S.tells → (came : List MessageOf) → HasAllOf came self.old → AreIn came (message_in given)
+            → GoesOn came (S.view self.old.keeper.store) (S.view self.new.keeper.store) }
+        ensures all { S.tells → (came : List MessageOf) → HasAllOf came self.old → AreIn came (message_in given)
+            → OnOk result (HasAllOf came self.new) }
         ensures stays { HasServed S.tells S.view self.old self.new }
         ensures failed { result ≡ Err StoreFailed → HasFailed S.tells S.view self.old self.new }
     {
@@ -391,6 +451,10 @@ impl<'a, S: Store + Drop> ServerNode<'a, S> {
         ensures works { (part : Part) (past : List Round) → StandsSo S.tells S.view part self.old past steps.old.steps
             (message_in given ++ latest_first self.old.inbox) (lapse_in given)
             → OnOk result (StandsSo S.tells S.view part self.new past steps.new.steps (latest_first self.new.inbox) 0) }
+        ensures went { S.tells → (came : List MessageOf) → HasAllOf came self.old → AreIn came (message_in given)
+            → GoesOn came (S.view self.old.keeper.store) (S.view self.new.keeper.store) }
+        ensures all { S.tells → (came : List MessageOf) → HasAllOf came self.old → AreIn came (message_in given)
+            → OnOk result (HasAllOf came self.new) }
         ensures stays { HasServed S.tells S.view self.old self.new }
         ensures failed { result ≡ Err StoreFailed → HasFailed S.tells S.view self.old self.new }
     {
@@ -412,6 +476,10 @@ impl<'a, S: Store + Drop> ServerNode<'a, S> {
             → StandsSo S.tells S.view part self.old past steps.old.steps (came ++ latest_first self.old.inbox) lapses
             → OnOk result (StandsSo S.tells S.view part self.new past steps.new.steps
             (came ++ latest_first self.new.inbox) lapses) }
+        ensures went { S.tells → (came : List MessageOf) → HasAllOf came self.old
+            → GoesOn came (S.view self.old.keeper.store) (S.view self.new.keeper.store) }
+        ensures all { S.tells → (came : List MessageOf) → HasAllOf came self.old
+            → OnOk result (HasAllOf came self.new) }
         ensures stays { HasServed S.tells S.view self.old self.new }
         ensures failed { result ≡ Err StoreFailed → HasFailed S.tells S.view self.old self.new }
     {
@@ -450,6 +518,10 @@ impl<'a, S: Store + Drop> ServerNode<'a, S> {
         ensures works { (part : Part) (past : List Round) (came : List MessageOf) (lapses : ℕ)
             → StandsSo S.tells S.view part self.old past steps.old.steps (came ++ latest_first self.old.inbox) lapses
             → OnOk result (StandsSo S.tells S.view part self.new past steps.new.steps came lapses) }
+        ensures went { S.tells → (came : List MessageOf) → HasAllOf came self.old
+            → GoesOn came (S.view self.old.keeper.store) (S.view self.new.keeper.store) }
+        ensures all { S.tells → (came : List MessageOf) → HasAllOf came self.old
+            → OnOk result (HasAllOf came self.new) }
         ensures stays { HasServed S.tells S.view self.old self.new }
         ensures failed { result ≡ Err StoreFailed → HasFailed S.tells S.view self.old self.new }
     {
@@ -485,6 +557,12 @@ impl<'a, S: Store + Drop> ServerNode<'a, S> {
             → OnOk result ((S.tells → IsLimited (S.view self.new.keeper.store).state)
             × StandsAt S.tells S.view (state_after (S.view self.new.keeper.store).state waiting.new) part self.new past
             steps.new.steps (came ++ latest_first self.new.inbox) lapses) }
+        ensures went { S.tells → (came : List MessageOf) → HasAllOf came self.old → Each (IsDoneFor came) waiting.old
+            → GoesOn came (S.view self.old.keeper.store) (S.view self.new.keeper.store) }
+        ensures all { S.tells → (came : List MessageOf) → HasAllOf came self.old → Each (IsDoneFor came) waiting.old
+            → OnOk result (HasAllOf came self.new) }
+        ensures done_for { (came : List MessageOf) → AreIn came self.old.inbox
+            → Each (IsDoneFor came) waiting.old → OnOk result (Each (IsDoneFor came) waiting.new) }
         ensures stays { HasServed S.tells S.view self.old self.new }
         ensures failed { result ≡ Err StoreFailed → HasFailed S.tells S.view self.old self.new }
     {
@@ -513,6 +591,12 @@ impl<'a, S: Store + Drop> ServerNode<'a, S> {
             → OnOk result ((S.tells → IsLimited (S.view self.new.keeper.store).state)
             × StandsAt S.tells S.view (state_after (S.view self.new.keeper.store).state waiting.new) part self.new past
             steps.new.steps came lapses) }
+        ensures went { S.tells → (came : List MessageOf) → HasAllOf came self.old → Each (IsDoneFor came) waiting.old
+            → GoesOn came (S.view self.old.keeper.store) (S.view self.new.keeper.store) }
+        ensures all { S.tells → (came : List MessageOf) → HasAllOf came self.old → Each (IsDoneFor came) waiting.old
+            → OnOk result (HasAllOf came self.new) }
+        ensures done_for { (came : List MessageOf)
+            → Each (IsDoneFor came) waiting.old → OnOk result (Each (IsDoneFor came) waiting.new) }
         ensures stays { HasServed S.tells S.view self.old self.new }
         ensures failed { result ≡ Err StoreFailed → HasFailed S.tells S.view self.old self.new }
     {
@@ -542,6 +626,12 @@ impl<'a, S: Store + Drop> ServerNode<'a, S> {
             → OnOk result ((S.tells → IsLimited (S.view self.new.keeper.store).state)
             × StandsAt S.tells S.view (state_after (S.view self.new.keeper.store).state waiting.new) part self.new past
             steps.new.steps (came ++ latest_first self.new.inbox) lapses) }
+        ensures went { S.tells → (came : List MessageOf) → HasAllOf came self.old → Each (IsDoneFor came) waiting.old
+            → GoesOn came (S.view self.old.keeper.store) (S.view self.new.keeper.store) }
+        ensures all { S.tells → (came : List MessageOf) → HasAllOf came self.old → Each (IsDoneFor came) waiting.old
+            → OnOk result (HasAllOf came self.new) }
+        ensures done_for { (came : List MessageOf) → AreIn came self.old.inbox
+            → Each (IsDoneFor came) waiting.old → OnOk result (Each (IsDoneFor came) waiting.new) }
         ensures stays { HasServed S.tells S.view self.old self.new }
         ensures failed { result ≡ Err StoreFailed → HasFailed S.tells S.view self.old self.new }
     {
@@ -559,6 +649,8 @@ impl<'a, S: Store + Drop> ServerNode<'a, S> {
         ensures none { OnOk result (waiting.new ≡ []) }
         ensures state { S.tells → IsLimited (S.view self.old.keeper.store).state → OnOk result
             ((S.view self.new.keeper.store).state ≡ state_after (S.view self.old.keeper.store).state waiting.old) }
+        ensures went { S.tells → (came : List MessageOf) → Each (IsDoneFor came) waiting.old
+            → GoesOn came (S.view self.old.keeper.store) (S.view self.new.keeper.store) }
         ensures stays { HasServed S.tells S.view self.old self.new }
         ensures failed { result ≡ Err StoreFailed → HasFailed S.tells S.view self.old self.new }
     {
@@ -647,7 +739,7 @@ fn push(steps: &mut Pending, step: Step) -> Result<(), NodeFault>
 }
 
 impl<'a, S: Store + Drop> Node for ServerNode<'a, S> {
-    ghost use Rattle.server_node.specs.Standing.{HasFailedBy, HasServed, Stands};
+    ghost use Rattle.server_node.specs.Standing.{HasBroken, HasFailedBy, HasServed, Stands};
     ghost use Rattle.hub_node.specs.Lines.{next_number};
     ghost use Rattle.server_node.specs.Laws.{fails_on, hands_in, lacks, stays_on, stays_so};
 
@@ -658,6 +750,8 @@ impl<'a, S: Store + Drop> Node for ServerNode<'a, S> {
     ghost stays = { HasServed S.tells S.view };
 
     ghost failed = { HasFailedBy S.tells S.view };
+
+    ghost broken = { HasBroken S.tells S.view };
 
     ghost next = { λ n. next_number n.lines };
 

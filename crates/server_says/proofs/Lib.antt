@@ -7,6 +7,7 @@ pub mod StepsMade
 pub mod Told
 pub mod SoundSaid
 pub use Rattle.server_takes.proofs.Bodies
+pub use Rattle.server_takes.proofs.Brought
 pub use Rattle.server_takes.proofs.SoundTaken
 pub use Rattle.server_takes.proofs.Acting
 pub use Rattle.server_takes.proofs.GivenAgain

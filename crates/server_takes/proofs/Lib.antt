@@ -1,4 +1,5 @@
 pub mod Bodies
+pub mod Brought
 pub mod Gathered
 pub mod Parts
 pub mod SoundTaken

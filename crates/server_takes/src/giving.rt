@@ -1,10 +1,13 @@
-ghost use Rattle.std.specs.Prelude.{◌≡◌, ◌≤◌, ◌+◌, ◌&&◌, true, length, map, if◌then◌else◌, IfOk, OnOk, Option};
+ghost use Rattle.std.specs.Prelude.{◌≡◌, ◌≤◌, ◌+◌, ◌&&◌, true, length, map, if◌then◌else◌, IfOk, List, OnOk};
+ghost use Rattle.std.specs.Prelude.{Option};
 ghost use Rattle.base_types.specs.declared.limits.TheConstants.{FILE_BYTES_MAX};
 ghost use Rattle.message_types.specs.Soundness.{Each};
+ghost use Rattle.message_types.specs.declared.message.Body.TheVariants.{GiveBack};
+ghost use Rattle.message_types.specs.declared.message.Message.{Message as MessageOf};
 ghost use Rattle.run_rules.specs.ServerDecides.{span_of};
 ghost use Rattle.run_rules.specs.Tokens.{number_of};
 ghost use Rattle.server_looks.specs.Acts.{IsGive, IsRepeatable, giving};
-ghost use Rattle.server_looks.specs.Keepers.{GoesOn, HasAsked, HasTried, IsFit};
+ghost use Rattle.server_looks.specs.Keepers.{GoesOn, HasAsked, HasBrought, HasTried, IsFit};
 ghost use Rattle.server_tables.specs.Counting.{IsCounted};
 ghost use Rattle.server_tables.specs.Gives.{given};
 ghost use Rattle.server_takes.specs.Taking.{all_kept, all_returned, answer_by, ending, freed, give_applied, give_draft};
@@ -85,7 +88,8 @@ pub(crate) fn take_give_back<S: Store>(
         ≡ give_state tables.old host give.now (S.view keeper.old.store).state) }
     ensures counted { OnOk result (IsCounted tables.new) }
     ensures tried { HasTried result (S.view keeper.old.store) (S.view keeper.new.store) keeper.new.left }
-    ensures went { S.tells → GoesOn (S.view keeper.old.store) (S.view keeper.new.store) }
+    ensures went { S.tells → (came : List MessageOf) → HasBrought came host (GiveBack give.now)
+        → GoesOn came (S.view keeper.old.store) (S.view keeper.new.store) }
 {
     let mut waiting = Items::new(tables.alloc());
     gather_give_back(tables, keeper, &mut waiting, draft, host, give)?;
@@ -117,7 +121,8 @@ pub(crate) fn gather_give_back<S: Store>(
     ensures waits { OnOk result (IsOneMore host give.now waiting.old waiting.new) }
     ensures counted { OnOk result (IsCounted tables.new) }
     ensures asked { HasAsked S.tells result (S.view keeper.old.store) (S.view keeper.new.store) keeper.new.left }
-    ensures went { S.tells → GoesOn (S.view keeper.old.store) (S.view keeper.new.store) }
+    ensures went { S.tells → (came : List MessageOf)
+        → GoesOn came (S.view keeper.old.store) (S.view keeper.new.store) }
 {
     if !tables.is_here(give.fid.fileset) {
         return Ok(());
@@ -150,7 +155,8 @@ fn gather_first<S: Store>(
         ≡ (if is_first tables.now host give.now then store_given host give.now state else state)) }
     ensures waits { OnOk result (IsOneMore host give.now waiting.old waiting.new) }
     ensures asked { HasAsked S.tells result (S.view keeper.old.store) (S.view keeper.new.store) keeper.new.left }
-    ensures went { S.tells → GoesOn (S.view keeper.old.store) (S.view keeper.new.store) }
+    ensures went { S.tells → (came : List MessageOf)
+        → GoesOn came (S.view keeper.old.store) (S.view keeper.new.store) }
 {
     if !is_first(tables, host, give) {
         return Ok(());
@@ -255,7 +261,8 @@ fn gather<S: Store>(
         → OnOk result (state_after (S.view keeper.new.store).state waiting.new ≡ store_given host give.now state) }
     ensures waits { OnOk result (IsOneMore host give.now waiting.old waiting.new) }
     ensures asked { HasAsked S.tells result (S.view keeper.old.store) (S.view keeper.new.store) keeper.new.left }
-    ensures went { S.tells → GoesOn (S.view keeper.old.store) (S.view keeper.new.store) }
+    ensures went { S.tells → (came : List MessageOf)
+        → GoesOn came (S.view keeper.old.store) (S.view keeper.new.store) }
 {
     if !may_store(keeper, give)? {
         return Ok(());

@@ -1,9 +1,10 @@
-ghost use Rattle.std.specs.Prelude.{◌≡◌, if◌then◌else◌, OnOk};
+ghost use Rattle.std.specs.Prelude.{◌≡◌, if◌then◌else◌, List, OnOk};
 ghost use Rattle.message_types.specs.Soundness.{IsHost};
 ghost use Rattle.message_types.specs.declared.message.Body.TheVariants.{Bye, Reclaimed as IsWelcome, Restarted};
+ghost use Rattle.message_types.specs.declared.message.Message.{Message as MessageOf};
 ghost use Rattle.run_rules.specs.ServerDue.{empty_reclaimed};
 ghost use Rattle.server_looks.specs.Acts.{host_noted};
-ghost use Rattle.server_looks.specs.Keepers.{GoesOn, HasTried, IsFit};
+ghost use Rattle.server_looks.specs.Keepers.{GoesOn, HasTried, HasWord, IsFit};
 ghost use Rattle.server_tables.specs.Counting.{IsCounted};
 ghost use Rattle.server_tables.specs.Greetings.{welcoming};
 ghost use Rattle.server_tables.specs.Updates.{gone_away};
@@ -39,7 +40,8 @@ pub(crate) fn take_hello<S: Store>(
         ≡ hello_state tables.old host (S.view keeper.old.store).state) }
     ensures counted { OnOk result (IsCounted tables.new) }
     ensures tried { HasTried result (S.view keeper.old.store) (S.view keeper.new.store) keeper.new.left }
-    ensures went { S.tells → GoesOn (S.view keeper.old.store) (S.view keeper.new.store) }
+    ensures went { S.tells → (came : List MessageOf) → HasWord came host
+        → GoesOn came (S.view keeper.old.store) (S.view keeper.new.store) }
 {
     let word = hello_word(tables.alloc(), is_late(tables, host));
     draft.say(tables, host, word)?;
@@ -70,7 +72,8 @@ fn welcome<S: Store>(
         ≡ host_noted (S.view keeper.old.store).state host Live) }
     ensures counted { OnOk result (IsCounted tables.new) }
     ensures tried { HasTried result (S.view keeper.old.store) (S.view keeper.new.store) keeper.new.left }
-    ensures went { S.tells → GoesOn (S.view keeper.old.store) (S.view keeper.new.store) }
+    ensures went { S.tells → (came : List MessageOf) → HasWord came host
+        → GoesOn came (S.view keeper.old.store) (S.view keeper.new.store) }
 {
     note_host(keeper, host, HostState::Live)?;
     tables.welcome(host)?;
@@ -115,7 +118,8 @@ pub(crate) fn take_bye<S: Store>(
         ≡ bye_state tables.old host epoch (S.view keeper.old.store).state) }
     ensures counted { OnOk result (IsCounted tables.new) }
     ensures tried { HasTried result (S.view keeper.old.store) (S.view keeper.new.store) keeper.new.left }
-    ensures went { S.tells → GoesOn (S.view keeper.old.store) (S.view keeper.new.store) }
+    ensures went { S.tells → (came : List MessageOf) → HasWord came host
+        → GoesOn came (S.view keeper.old.store) (S.view keeper.new.store) }
 {
     let word = bye_word(ends_late(tables, host, epoch));
     draft.say(tables, host, word)?;
@@ -160,7 +164,8 @@ fn end<S: Store>(
         ≡ host_noted (S.view keeper.old.store).state host Ended) }
     ensures counted { OnOk result (IsCounted tables.new) }
     ensures tried { HasTried result (S.view keeper.old.store) (S.view keeper.new.store) keeper.new.left }
-    ensures went { S.tells → GoesOn (S.view keeper.old.store) (S.view keeper.new.store) }
+    ensures went { S.tells → (came : List MessageOf) → HasWord came host
+        → GoesOn came (S.view keeper.old.store) (S.view keeper.new.store) }
 {
     note_host(keeper, host, HostState::Ended)?;
     tables.go_away(host)?;
@@ -183,7 +188,8 @@ pub(crate) fn take_down<S: Store>(
         ≡ host_noted (S.view keeper.old.store).state host IsDown) }
     ensures counted { OnOk result (IsCounted tables.new) }
     ensures tried { HasTried result (S.view keeper.old.store) (S.view keeper.new.store) keeper.new.left }
-    ensures went { S.tells → GoesOn (S.view keeper.old.store) (S.view keeper.new.store) }
+    ensures went { S.tells → (came : List MessageOf) → HasWord came host
+        → GoesOn came (S.view keeper.old.store) (S.view keeper.new.store) }
 {
     note_host(keeper, host, HostState::IsDown)?;
     stop(tables, host)?;

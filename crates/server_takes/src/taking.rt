@@ -1,7 +1,9 @@
-ghost use Rattle.std.specs.Prelude.{◌≡◌, true, false, [], Some, None, OnOk};
+ghost use Rattle.std.specs.Prelude.{◌≡◌, true, false, [], List, Some, None, OnOk};
 ghost use Rattle.base_types.specs.declared.user.User.{User};
 ghost use Rattle.message_types.specs.Soundness.{Each};
 ghost use Rattle.message_types.specs.declared.message.Body.TheVariants.{GiveBack};
+ghost use Rattle.message_types.specs.declared.message.Message.{Message as MessageOf};
+ghost use Rattle.run_rules.specs.Past.{In};
 ghost use Rattle.server_looks.specs.Acts.{IsGive};
 ghost use Rattle.server_looks.specs.Keepers.{GoesOn, HasAsked, HasTried, IsFit};
 ghost use Rattle.server_tables.specs.Counting.{IsCounted};
@@ -45,7 +47,8 @@ pub fn take_message<S: Store>(
         ≡ state_taken tables.old message.now (S.view keeper.old.store).state) }
     ensures counted { OnOk result (IsCounted tables.new) }
     ensures tried { HasTried result (S.view keeper.old.store) (S.view keeper.new.store) keeper.new.left }
-    ensures went { S.tells → GoesOn (S.view keeper.old.store) (S.view keeper.new.store) }
+    ensures went { S.tells → (came : List MessageOf) → In message.now came
+        → GoesOn came (S.view keeper.old.store) (S.view keeper.new.store) }
 {
     let host = message.host;
     if tables.hosts.is_down(host) {
@@ -81,7 +84,8 @@ fn take_other<S: Store>(
         ≡ other_state tables.old message.now (S.view keeper.old.store).state message.now.body) }
     ensures counted { OnOk result (IsCounted tables.new) }
     ensures tried { HasTried result (S.view keeper.old.store) (S.view keeper.new.store) keeper.new.left }
-    ensures went { S.tells → GoesOn (S.view keeper.old.store) (S.view keeper.new.store) }
+    ensures went { S.tells → (came : List MessageOf) → In message.now came
+        → GoesOn came (S.view keeper.old.store) (S.view keeper.new.store) }
 {
     if !tables.hosts.is_live(message.host) {
         return Ok(());
@@ -117,7 +121,8 @@ fn take_request<S: Store>(
         ≡ request_state tables.old message.now (S.view keeper.old.store).state message.now.body) }
     ensures counted { OnOk result (IsCounted tables.new) }
     ensures tried { HasTried result (S.view keeper.old.store) (S.view keeper.new.store) keeper.new.left }
-    ensures went { S.tells → GoesOn (S.view keeper.old.store) (S.view keeper.new.store) }
+    ensures went { S.tells → (came : List MessageOf) → In message.now came
+        → GoesOn came (S.view keeper.old.store) (S.view keeper.new.store) }
 {
     let host = message.host;
     match &message.body {
@@ -182,7 +187,8 @@ pub fn gather_message<S: Store>(
     ensures waits { OnOk result (IsOneMore message.now.host give.now waiting.old waiting.new) }
     ensures counted { OnOk result (IsCounted tables.new) }
     ensures asked { HasAsked S.tells result (S.view keeper.old.store) (S.view keeper.new.store) keeper.new.left }
-    ensures went { S.tells → GoesOn (S.view keeper.old.store) (S.view keeper.new.store) }
+    ensures went { S.tells → (came : List MessageOf)
+        → GoesOn came (S.view keeper.old.store) (S.view keeper.new.store) }
 {
     gather_give_back(tables, keeper, waiting, draft, message.host, give)
 }

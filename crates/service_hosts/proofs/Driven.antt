@@ -12,14 +12,16 @@ use Rattle.hub_drive.specs.Driving.{AreNodes, IsFault, beginning}
 use Rattle.hub_drive.specs.Seats.{PairsAt}
 use Rattle.hub_drive.specs.declared.driver.DriveFault.{DriveFault}
 use Rattle.hub_drive.specs.declared.driver.DriveFault.TheVariants as drive
-use Rattle.hub_node.specs.Either.{of_either, stands_any}
-use Rattle.hub_node.specs.Nodes.{Beginning, HasBecome}
+use Rattle.hub_laws.specs.Keeping.{Round}
+use Rattle.hub_node.specs.Either.{broken_any, of_either, stands_any}
+use Rattle.hub_node.specs.Nodes.{Beginning, HasBecome, Part}
 use Rattle.hub_node.specs.declared.either.AnyNode.TheVariants.{Host, Server}
 use Rattle.hub_node.specs.declared.node.NodeFault.{NodeFault}
 use Rattle.hub_node.specs.declared.node.NodeFault.TheVariants.{Memory, Store as StoreFailed}
+use Rattle.host_node.specs.Laws.{Breaks}
 use Rattle.host_node.specs.Standing.{Stands as HostStands}
 use Rattle.host_node.specs.declared.host.HostNode.{HostNode}
-use Rattle.server_node.specs.Standing.{HasFailedBy, HasServed, Stands as ServerStands}
+use Rattle.server_node.specs.Standing.{HasBroken, HasFailedBy, HasServed, Stands as ServerStands}
 use Rattle.service_moves.specs.Stopping.{HasFailed}
 use Rattle.service_moves.specs.Stores.{AreSame, AreStores}
 use Rattle.service_hosts.specs.Hosting.{IsStopped, stopped_by}
@@ -51,6 +53,10 @@ module _ {S : Type 0} (tells : Type 0) (view : S → View) where
 
   abbrev pub FailedSo : NodeFault → NodeOf S → NodeOf S → Type 0
   FailedSo fault = of_either (λ (a b : HostNode). fault ≡ Memory) (HasFailedBy tells view fault)
+
+  -- and in which rounds
+  abbrev pub BrokenSo : Part → NodeOf S → List Round → Type 0
+  BrokenSo = broken_any Breaks (HasBroken tells view)
 
   -- either way it is a host still, or a server that has served
   serves : (a b : NodeOf S) → HasBecome StaysSo FailedSo a b → StaysSo a b
@@ -121,7 +127,8 @@ module _ {S : Type 0} (tells : Type 0) (view : S → View) where
         → IsFault (Unit {0} × tells) (stands_any HostStands (ServerStands tells view)) run FailedSo next olds news fault
         → (k : ℕ) → fault ≡ drive.Store k → (count ≤ k) × (k - count < length stores)
     stops_by run next fault f k e =
-        (let g = subst (IsFault (Unit {0} × tells) (stands_any HostStands (ServerStands tells view)) run FailedSo next olds
+        (let g = subst (IsFault (Unit {0} × tells) (stands_any HostStands (ServerStands tells view)) run FailedSo
+        next olds
         news) e f in
         let at = failed_at k g.0 g.1 in (at.behind_hosts, at.few))
 

@@ -17,12 +17,12 @@ use Rattle.run_promises.proofs.Promising.{tree_is}
 use Rattle.run_promises.specs.Promises.{HasRun, last_tree}
 use Rattle.hub_drive.specs.Driving.{HasDriven, HasStoodAfter, HasStopped, StandAfter, StandsAfter, beginning}
 use Rattle.hub_board.specs.Hubs.{nodes_of}
+use Rattle.hub_laws.specs.Keeping.{messages_given}
 use Rattle.hub_node.specs.Either.{stands_any}
 use Rattle.hub_node.specs.declared.either.AnyNode.TheVariants.{Host, Server}
 use Rattle.host_node.specs.Standing.{Stands as HostStands}
 use Rattle.server_node.proofs.Serving.{keeps_at_end, ready_at}
-use Rattle.server_node.specs.Standing.{HasCome, HasServed, Stands as ServerStands}
-use Rattle.store_state.specs.declared.state.StoreState.{StoreState}
+use Rattle.server_node.specs.Standing.{HasBroken, HasDoneMore, Stands as ServerStands}
 use Rattle.server_node.specs.declared.server.ServerNode.{ServerNode}
 use Rattle.service_hosts.specs.Hosting.{AreKeeping, HasComeFrom, HasHosted, HasHostedSoFar, HasKept}
 use Rattle.service_hosts.specs.Hosting.{KeepSoFar, KeepsMore, epochs_of, kept_so_far, own_in}
@@ -35,13 +35,10 @@ use Rattle.hub_drive.specs.declared.driver.DriveFault.TheVariants as drive
 use Rattle.hub_drive.specs.declared.driver.Waiting.{Waiting}
 use Rattle.hub_node.specs.Nodes.{OwnMeets, part_of}
 use Rattle.hub_node.specs.declared.node.NodeFault.{NodeFault}
-use Rattle.service_hosts.proofs.Driven.{FailedSo, StaysSo}
+use Rattle.service_hosts.proofs.Driven.{BrokenSo, FailedSo, StaysSo}
 use Rattle.service_hosts.proofs.Laid.{map_long, server_at_place}
 use Rattle.service_hosts.proofs.Paired.{store_of}
 use Rattle.service_hosts.proofs.Places.{server_at, server_place}
-
-come_none : (state : StoreState) → HasCome state state
-come_none state = record { acts = []; each = tt; running = tt; server = refl; roster = refl; state = refl }
 
 module _ {S : Type 0} (tells : Type 0) (view : S → View) (script : Script) (start : Tree) (epochs : List ℕ)
     (servers : script.servers ≡ length script.roster.capacity) (news : List (NodeOf S)) (journal : Journal) where
@@ -155,14 +152,7 @@ module _ {S : Type 0} (tells : Type 0) (view : S → View) (script : Script) (st
   -- a server has stood where its own steps in the journal brought it
   abbrev HasStoodSo : Node → NodeOf S → Type 0
   HasStoodSo = HasStoodAfter (stands_any HostStands (ServerStands tells view)) (StaysSo tells view)
-      (FailedSo tells view) (beginning script start epochs) journal
-
-  -- where it failed, it served till then
-  served_since : (before : NodeOf S) (b : ServerNode S)
-      → ((fault : NodeFault) × FailedSo tells view fault before (Server b))
-      → (a : ServerNode S) × (before ≡ Server a) × HasServed tells view a b
-  served_since (Host a) b h = absurd h.1
-  served_since (Server a) b h = (a, refl, h.1.served)
+      (FailedSo tells view) (BrokenSo tells view) (beginning script start epochs) journal
 
   -- a store keeps its server's own steps in the journal, and some more
   kept_more : (k : ℕ) (b : ServerNode S) → journal.epochs ≡ epochs → (own : List Step)
@@ -190,21 +180,20 @@ module _ {S : Type 0} (tells : Type 0) (view : S → View) (script : Script) (st
       kept_more k b are _ st.own more (so.so.kept.meets t) (so.so.keeps t).stands.keeps
 
   -- or it failed since then
-  kept_till : tells → (k : ℕ) (b : ServerNode S) → (st : HasStoodSo (server_at (k + 1)) (Server b))
-      → ((fault : NodeFault) × FailedSo tells view fault st.before (Server b))
-      → HasComeFrom (kept_so_far start journal (record { 0 = k + 1 })) (view (store_of b)).state
-  kept_till t k b st failed =
-      let run = beginning script start epochs in
+  kept_till : tells → (k : ℕ) (b : ServerNode S) → journal.epochs ≡ epochs
+      → (st : HasStoodSo (server_at (k + 1)) (Server b))
+      → HasBroken tells view (part_of (beginning script start epochs) (server_at (k + 1))) b st.rounds
+      → HasComeFrom script start journal (record { 0 = k + 1 }) (view (store_of b)).state
+  kept_till t k b are st broken =
       let server : ServerId = record { 0 = k + 1 } in
-      let s = served_since st.before b failed in
-      let stood : ServerStands tells view (part_of run (OfServer server)) s.0 st.past st.handed =
-      subst (λ (n : NodeOf S).
-      stands_any HostStands (ServerStands tells view) (part_of run (OfServer server)) n st.past st.handed) s.1
-      st.stood in record {
-        kept = (view (store_of s.0)).state;
-        keeps = subst (λ (l : List Step). KeepsOf (filesets_kept start server l) (view (store_of s.0)).state)
-            (sym (st.own ∙ st.whole)) (stood.so.keeps t).stands.keeps;
-        come = s.2.went t (view (store_of s.0)).state (come_none (view (store_of s.0)).state);
+      let given = messages_given st.rounds in
+      let state = (view (store_of b)).state in record {
+        given = given;
+        sent = st.sent;
+        more = subst (λ (e : List ℕ). HasDoneMore (beginning script start e) server (own_in journal server) given state)
+            (sym are)
+            (subst (λ (l : List Step). HasDoneMore (beginning script start epochs) server l given state) (sym st.own)
+            (broken t));
       }
 
   kept_of : tells → journal.epochs ≡ epochs → (k : ℕ) (b : ServerNode S) → HasStoodSo (server_at (k + 1)) (Server b)
@@ -213,12 +202,14 @@ module _ {S : Type 0} (tells : Type 0) (view : S → View) (script : Script) (st
       (λ (x : (made : List Step) × stands_any HostStands (ServerStands tells view)
       (part_of (beginning script start epochs) (server_at (k + 1))) (Server b) st.rounds made
       × StaysSo tells view st.before (Server b)). inl (kept_still t k b are st x.0 x.1, x.1.ready.fit.ready))
-      (λ (x : (fault : NodeFault) × FailedSo tells view fault st.before (Server b)). inr (kept_till t k b st x))
+      (λ (x : ((fault : NodeFault) × FailedSo tells view fault st.before (Server b))
+      × BrokenSo tells view (part_of (beginning script start epochs) (server_at (k + 1))) (Server b) st.rounds).
+      inr (kept_till t k b are st x.1))
       st.since
 
   -- and where it came to no end
   pub so_far_hosted : HasStopped (Unit {0} × tells) (stands_any HostStands (ServerStands tells view))
-      (StaysSo tells view) (FailedSo tells view) script start epochs news journal
+      (StaysSo tells view) (FailedSo tells view) (BrokenSo tells view) script start epochs news journal
       → (result : Result Journal HostsStopped) → ((waiting : Waiting) → result ≡ Err (Stuck waiting) → StandAfter
       (stands_any HostStands (ServerStands tells view)) (beginning script start epochs) journal news)
       → (olds stores : List S) → AreOver news (length script.roster.hosts + 1) stores
@@ -286,7 +277,7 @@ module _ {S : Type 0} (tells : Type 0) (view : S → View) (script : Script) (st
     (servers : script.servers ≡ length script.roster.capacity) (news : List (NodeOf S))
     (so_far : Option Journal) (fault : DriveFault) (hosts : ℕ)
     (h : IfSome so_far (HasStopped (Unit {0} × tells) (stands_any HostStands (ServerStands tells view))
-    (StaysSo tells view) (FailedSo tells view) script start epochs news))
+    (StaysSo tells view) (FailedSo tells view) (BrokenSo tells view) script start epochs news))
     (rest : (w : Waiting) → fault ≡ drive.Stuck w → IfSome so_far (λ journal.
     StandAfter (stands_any HostStands (ServerStands tells view)) (beginning script start epochs) journal news))
     (olds stores : List S) (over : AreOver news (length script.roster.hosts + 1) stores)
@@ -298,7 +289,7 @@ module _ {S : Type 0} (tells : Type 0) (view : S → View) (script : Script) (st
   so_far_by =
       if_some so_far
       (HasStopped (Unit {0} × tells) (stands_any HostStands (ServerStands tells view)) (StaysSo tells view)
-      (FailedSo tells view) script start epochs news)
+      (FailedSo tells view) (BrokenSo tells view) script start epochs news)
       (HasHostedSoFar tells view script start olds stores (Err (stopped_by hosts fault)))
       (λ journal is d.
       so_far_hosted tells view script start epochs servers news journal d (Err (stopped_by hosts fault))
@@ -314,7 +305,7 @@ module _ {S : Type 0} (tells : Type 0) (view : S → View) (script : Script) (st
 
   pub held_by : (so_far ≡ None → fault ≡ drive.Memory)
       → ((journal : Journal) × HasStopped (Unit {0} × tells) (stands_any HostStands (ServerStands tells view))
-      (StaysSo tells view) (FailedSo tells view) script start epochs news journal) → Goes
+      (StaysSo tells view) (FailedSo tells view) (BrokenSo tells view) script start epochs news journal) → Goes
   held_by lacks held = by so_far refl
     where
       by : (o : Option Journal) → so_far ≡ o → Goes

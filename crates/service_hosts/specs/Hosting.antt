@@ -17,13 +17,14 @@ use Rattle.base_types.specs.declared.ids.Node.TheVariants.{Server}
 use Rattle.base_types.specs.declared.ids.ServerId.{ServerId}
 use Rattle.hub_node.specs.Nodes.{OwnMeets}
 use Rattle.run_rules.specs.Kept.{filesets_kept}
-use Rattle.run_rules.specs.Past.{Always, appended}
-use Rattle.run_rules.specs.Plans.{IsPlanned}
+use Rattle.message_types.specs.declared.message.Message.{Message}
+use Rattle.run_rules.specs.Past.{Always, In, appended}
+use Rattle.run_rules.specs.Plans.{IsPlanned, sent_in}
 use Rattle.run_rules.specs.Runs.{IsDutiful, IsRun, past_of}
 use Rattle.run_rules.specs.Steps.{steps_of_server}
 use Rattle.run_rules.specs.declared.journal.Journal.{Journal}
 use Rattle.run_rules.specs.declared.step.Step.{Step}
-use Rattle.server_node.specs.Standing.{HasCome}
+use Rattle.server_node.specs.Standing.{HasDoneMore}
 use Rattle.service_moves.specs.Stopping.{HasFailed}
 use Rattle.store_state.specs.declared.state.StoreState.{StoreState}
 use Rattle.run_promises.specs.Promises.{HasRun, last_tree}
@@ -102,19 +103,22 @@ pub record KeepsMore (script : Script) (start : Tree) (journal : Journal) (serve
       (appended more (own_in journal server))
   pub keeps : KeepsOf (filesets_kept start server (appended more (own_in journal server))) state
 
--- what a store keeps has come, by acts that its server may do while it runs, from what keeps a tree
-pub record HasComeFrom (tree : Tree) (state : StoreState) : Type 0 where
-  pub kept : StoreState
-  pub keeps : KeepsOf tree kept
-  pub come : HasCome kept state
+-- A store keeps what its server keeps by the rules after all its steps in a journal from this tree, and then what was
+-- done for requests that it hasn't answered there: for messages that came to it and that none of these steps took, each
+-- of which was sent in the journal, and for those of the wants that wait behind them.
+pub record HasComeFrom (script : Script) (start : Tree) (journal : Journal) (server : ServerId) (state : StoreState)
+    : Type 0 where
+  pub given : List Message
+  pub sent : (m : Message) → In m given → In m (sent_in (past_of journal))
+  pub more : HasDoneMore (beginning script start journal.epochs) server (own_in journal server) given state
 
 -- Each change that a server acknowledged in a journal from this tree is in its store: that keeps the server's steps in
--- the journal, and perhaps some more, and may be asked; or, where the server failed while it made more, it has done
--- acts of its server since it kept those.
+-- the journal, and perhaps some more, and may be asked; or, where the server failed while it made more, behind those
+-- what was done for requests that it hasn't answered.
 abbrev pub HasKept : Script → Tree → Journal → ServerId → View → Type 0
 HasKept script start journal server view =
     (KeepsMore script start journal server view.state × view.ready)
-    ⊎ HasComeFrom (kept_so_far start journal server) view.state
+    ⊎ HasComeFrom script start journal server view.state
 
 -- Hosts and servers ran a script from a tree on, so far: the journal starts from the tree, in the epochs of the stores,
 -- and keeps to the plan of the script; where the stores tell what they keep it is a run of the script, in which what is

@@ -483,7 +483,7 @@ module _ {D : Type 0} (tells : Type 0) (view : D → DiskView) (roster : Roster)
         (let a = at k disk is in
         let state = kept_state view a.after in
         let more = KeepsMore script start journal (server_of (k + 1)) in
-        let come = HasComeFrom (kept_so_far start journal (server_of (k + 1))) in
+        let come = HasComeFrom script start journal (server_of (k + 1)) in
         let found : record_in script.roster (server_of (k + 1)) (view disk).image ≡ Some state =
         subst (λ (r : Roster). record_in r (server_of (k + 1)) (view disk).image ≡ Some state) (sym its)
         (has_found t (k + 1) k olds stores left disk a) in

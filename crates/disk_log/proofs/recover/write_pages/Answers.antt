@@ -1,7 +1,7 @@
 use Rattle.std.proofs.Common.{◌≡◌, ◌∙◌, ℕ, List, get_or, None, ap, sym, subst, arith}
 use Rattle.disk_layout.specs.Places.{in_place}
 use Rattle.disk_layout.specs.Pages.{SameButPages}
-use Rattle.disk_log.proofs.Calls.{kept_in}
+use Rattle.disk_log.proofs.Reading.{place_of}
 use Rattle.std.proofs.lemmas.Result.{on_ok_weaker}
 use Rattle.base_outside.proofs.Runs.{then_changes, wider_changes}
 use Rattle.disk_log.proofs.Recovering.{then_pages, wider_pages, done_pages, page_stays}
@@ -29,7 +29,7 @@ pub returns-clause-written : goal.returns-clause-written
 returns-clause-written g c = λ told.
     on_ok_weaker c.sync.result
     (λ settled p bytes there.
-    let within = kept_in c.args.table.now p bytes there in
+    let within = place_of c.args.table.now p bytes there in
     ap (λ (l : List ℕ). in_place l p) c.sync.ensures.quiet.image ∙ c.loop-place.invariant.done told p bytes (omega arith) there) c.sync.ensures.durable
 
 pub returns-clause-same : goal.returns-clause-same

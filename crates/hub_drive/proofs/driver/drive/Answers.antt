@@ -50,7 +50,7 @@ run_at-requires-clause-stood g c κs w =
       roster = c.in-Ok-new.ensures.roster;
     } in
     let met = g.met.N.Node g.world.𝓛 g.world.𝓜 g.world.𝓡 ((λ s x. x), (λ x. x), (λ x. x), (λ x. x)) in
-    first_stood g.N.Node.stands g.N.Node.stays g.N.Node.failed met.stays_so c.in-Ok-new.hub run
+    first_stood g.N.Node.stands g.N.Node.stays g.N.Node.failed g.N.Node.broken met.stays_so c.in-Ok-new.hub run
     c.seat_all-seats.result.items
     (all_seated g.N.Node.stands run c.in-Ok-new.hub hub_is
     c.seat_all-seats.result.items c.args.nodes.items c.in-Ok-new.passes.items c.requires.nodes
@@ -61,11 +61,13 @@ run_at-requires-clause-stood g c κs w =
 pub returns-in_default-clause-held : goal.returns-in_default-clause-held
 returns-in_default-clause-held g c =
     let met = g.met.N.Node g.world.𝓛 g.world.𝓜 g.world.𝓡 ((λ s x. x), (λ x. x), (λ x. x), (λ x. x)) in
-    none_held g.N.Node.tells g.N.Node.stands g.N.Node.stays g.N.Node.failed met.stays_so c.args.script.now c.args.start
+    none_held g.N.Node.tells g.N.Node.stands g.N.Node.stays g.N.Node.failed g.N.Node.broken met.stays_so
+    c.args.script.now c.args.start
     c.args.epochs c.requires.can c.args.nodes.items c.requires.nodes
 
 pub returns-in_default-new-clause-held : goal.returns-in_default-new-clause-held
 returns-in_default-new-clause-held g c =
     let met = g.met.N.Node g.world.𝓛 g.world.𝓜 g.world.𝓡 ((λ s x. x), (λ x. x), (λ x. x), (λ x. x)) in
-    none_held g.N.Node.tells g.N.Node.stands g.N.Node.stays g.N.Node.failed met.stays_so c.args.script.now c.args.start
+    none_held g.N.Node.tells g.N.Node.stands g.N.Node.stays g.N.Node.failed g.N.Node.broken met.stays_so
+    c.args.script.now c.args.start
     c.args.epochs c.requires.can c.args.nodes.items c.requires.nodes

@@ -19,7 +19,8 @@ returns-clause-driven g c =
 pub returns-clause-held : goal.returns-clause-held
 returns-clause-held g c =
     on_err c.close-result.result
-    (held_by g.N.Node.tells g.N.Node.stands g.N.Node.stays g.N.Node.failed g.met.N.Node.hands_in c.args.script.now
+    (held_by g.N.Node.tells g.N.Node.stands g.N.Node.stays g.N.Node.failed g.N.Node.broken g.met.N.Node.hands_in
+    c.args.script.now
     c.args.start c.args.epochs c.requires.can c.args.hub c.requires.hub c.args.seats.items c.requires.are
     c.requires.stood c.unseat.new.nodes.items c.unseat.new.passes.items c.unseat.ensures.nodes
     c.unseat.ensures.passes c.close-result.ensures.ended)

@@ -13,7 +13,7 @@ turn_until-went-requires-clause-here g c κs within =
 
 pub finish-requires-clause-are : goal.finish-requires-clause-are
 finish-requires-clause-are g c =
-    nodes_on g.N.Node.stands g.N.Node.stays g.N.Node.failed g.N.Node.next c.args.hub c.args.seats.items
+    nodes_on g.N.Node.stands g.N.Node.stays g.N.Node.failed g.N.Node.broken g.N.Node.next c.args.hub c.args.seats.items
     c.turn_until-went.new.seats.items c.turn_until-went.ensures.gone ∙ c.requires.are
 
 pub finish-requires-clause-through : goal.finish-requires-clause-through
@@ -23,7 +23,7 @@ finish-requires-clause-through g c =
 
 pub finish-requires-clause-stood : goal.finish-requires-clause-stood
 finish-requires-clause-stood g c =
-    all_stood g.N.Node.stands g.N.Node.stays g.N.Node.failed c.args.hub
+    all_stood g.N.Node.stands g.N.Node.stays g.N.Node.failed g.N.Node.broken c.args.hub
     (beginning c.args.script.now c.args.start c.args.epochs) c.args.seats.items c.turn_until-went.new.seats.items
     c.turn_until-went.ensures.gone (λ i d lt well. c.requires.seated i d lt) c.requires.stood
 
@@ -34,32 +34,34 @@ returns-then-went-clause-stayed g c =
     let through = c.turn_until-went.ensures.through run (λ i d lt well. c.requires.seated i d lt) c.if-went.true in
     on_any c.finish.result.result (subst (PairsAt g.N.Node.stays (map (node_of {N = g.row.N.Denot}) c.args.seats.items))
     (sym c.finish.ensures.nodes)
-    (stayed_of g.N.Node.stands g.N.Node.stays g.N.Node.failed g.N.Node.next c.args.hub c.args.seats.items news
+    (stayed_of g.N.Node.stands g.N.Node.stays g.N.Node.failed g.N.Node.broken g.N.Node.next c.args.hub
+    c.args.seats.items news
     c.turn_until-went.ensures.gone (λ i d lt. (through i d lt).well)))
 
 pub returns-then-went-clause-became : goal.returns-then-went-clause-became
 returns-then-went-clause-became g c =
     subst (PairsAt (HasBecome g.N.Node.stays g.N.Node.failed) (map (node_of {N = g.row.N.Denot}) c.args.seats.items))
     (sym c.finish.ensures.nodes)
-    (became_of g.N.Node.stands g.N.Node.stays g.N.Node.failed g.N.Node.next c.args.hub c.args.seats.items
+    (became_of g.N.Node.stands g.N.Node.stays g.N.Node.failed g.N.Node.broken g.N.Node.next c.args.hub
+    c.args.seats.items
     c.turn_until-went.new.seats.items c.turn_until-went.ensures.gone c.requires.well)
 
 pub returns-then-went-clause-failed : goal.returns-then-went-clause-failed
 returns-then-went-clause-failed g c =
     if_err c.finish.result.result _ _
-    (free_of g.N.Node.stands g.N.Node.stays g.N.Node.failed g.N.Node.next c.args.hub g.N.Node.tells
+    (free_of g.N.Node.stands g.N.Node.stays g.N.Node.failed g.N.Node.broken g.N.Node.next c.args.hub g.N.Node.tells
     (beginning c.args.script.now c.args.start c.args.epochs) (map (node_of {N = g.row.N.Denot}) c.args.seats.items)
     c.finish.result.nodes.items)
     c.finish.ensures.failed
 
 pub stop-requires-clause-are : goal.stop-requires-clause-are
 stop-requires-clause-are g c =
-    nodes_on g.N.Node.stands g.N.Node.stays g.N.Node.failed g.N.Node.next c.args.hub c.args.seats.items
+    nodes_on g.N.Node.stands g.N.Node.stays g.N.Node.failed g.N.Node.broken g.N.Node.next c.args.hub c.args.seats.items
     c.turn_until-went.new.seats.items c.turn_until-went.ensures.gone ∙ c.requires.are
 
 pub stop-requires-clause-stood : goal.stop-requires-clause-stood
 stop-requires-clause-stood g c =
-    all_stood g.N.Node.stands g.N.Node.stays g.N.Node.failed c.args.hub
+    all_stood g.N.Node.stands g.N.Node.stays g.N.Node.failed g.N.Node.broken c.args.hub
     (beginning c.args.script.now c.args.start c.args.epochs) c.args.seats.items c.turn_until-went.new.seats.items
     c.turn_until-went.ensures.gone (λ i d lt well. c.requires.seated i d lt) c.requires.stood
 
@@ -92,7 +94,8 @@ pub returns-clause-became : goal.returns-clause-became
 returns-clause-became g c =
     subst (PairsAt (HasBecome g.N.Node.stays g.N.Node.failed) (map (node_of {N = g.row.N.Denot}) c.args.seats.items))
     (sym c.stop.ensures.nodes)
-    (became_of g.N.Node.stands g.N.Node.stays g.N.Node.failed g.N.Node.next c.args.hub c.args.seats.items
+    (became_of g.N.Node.stands g.N.Node.stays g.N.Node.failed g.N.Node.broken g.N.Node.next c.args.hub
+    c.args.seats.items
     c.turn_until-went.new.seats.items c.turn_until-went.ensures.gone c.requires.well)
 
 pub returns-clause-failed : goal.returns-clause-failed
@@ -100,6 +103,7 @@ returns-clause-failed g c =
     let stands = g.N.Node.stands in
     let stays = g.N.Node.stays in
     let failed = g.N.Node.failed in
+    let broken = g.N.Node.broken in
     let next = g.N.Node.next in
     let run = beginning c.args.script.now c.args.start c.args.epochs in
     let news = c.turn_until-went.new.seats.items in
@@ -108,15 +112,16 @@ returns-clause-failed g c =
     let shows : ShowsFault next news fault =
     subst (λ l. ShowsFault next l fault) c.as_slice.ensures.value c.fault_of-fault.ensures.shows in
     let is_fault = subst (λ l. IsFault g.N.Node.tells stands run failed next olds l fault) (sym c.stop.ensures.nodes)
-    (failed_of stands stays failed next c.args.hub g.N.Node.tells run c.args.seats.items news fault
+    (failed_of stands stays failed broken next c.args.hub g.N.Node.tells run c.args.seats.items news fault
     c.turn_until-went.ensures.gone
     c.requires.well
     (λ w is.
     let idle = c.fault_of-fault.ensures.stuck w is in
     c.turn_until-went.ensures.rests run (λ i d lt well. c.requires.seated i d lt) idle.0 idle.1)
-    (nodes_on stands stays failed next c.args.hub c.args.seats.items news c.turn_until-went.ensures.gone
+    (nodes_on stands stays failed broken next c.args.hub c.args.seats.items news c.turn_until-went.ensures.gone
     ∙ c.requires.are)
     shows) in
     if_err c.stop.result.result _ _
-    (fault_or_free stands stays failed next c.args.hub g.N.Node.tells run olds c.stop.result.nodes.items fault is_fault)
+    (fault_or_free stands stays failed broken next c.args.hub g.N.Node.tells run olds c.stop.result.nodes.items fault
+    is_fault)
     c.stop.ensures.fault

@@ -11,5 +11,5 @@ invariant-loop-k g l = record {
       → FirstAt (IsThrough g.N.Node.stands run l.hub g.N.Node.tells) l.k l.seats;
   rests : (run : Beginning) → EachAt (IsIn g.N.Node.stands run l.hub) l.initial.seats → l.went.worked ≡ false
       → l.went.stopped ≡ false → FirstAt (IsAtRest g.N.Node.stands run l.hub g.N.Node.tells) l.k l.seats;
-  gone : PairsAt (HasGone g.N.Node.stands g.N.Node.stays g.N.Node.failed l.hub) l.initial.seats l.seats;
+  gone : PairsAt (HasGone g.N.Node.stands g.N.Node.stays g.N.Node.failed g.N.Node.broken l.hub) l.initial.seats l.seats;
 }

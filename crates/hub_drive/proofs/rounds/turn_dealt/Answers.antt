@@ -18,6 +18,7 @@ returns g c =
     let stands = g.N.Node.stands in
     let stays = g.N.Node.stays in
     let failed = g.N.Node.failed in
+    let broken = g.N.Node.broken in
     let met = g.met.N.Node g.world.𝓛 g.world.𝓜 g.world.𝓡 ((λ s x. x), (λ x. x), (λ x. x), (λ x. x)) in
     let hub = c.args.hub.now in
     let dealt = c.deal.ensures.dealt in
@@ -25,8 +26,8 @@ returns g c =
     let size : length c.deal.new.all.items + length dealt.0 ≡ c.len-count.result =
     sym (all ∙ ap (λ l. length l) dealt.1 ∙ length-append c.deal.new.all.items dealt.0) in
     record {
-      gone = back_in_place (λ b. b.items) (HasGone {N = g.row.N.Denot} stands stays failed hub)
-          (gone_so stands stays failed hub met.stays_so met.stays_on met.fails_on) (worker_at c.args.hosts)
+      gone = back_in_place (λ b. b.items) (HasGone {N = g.row.N.Denot} stands stays failed broken hub)
+          (gone_so stands stays failed broken hub met.stays_so met.stays_on met.fails_on) (worker_at c.args.hosts)
           (has_worker c.args.hosts) c.args.seats.now.items c.deal.new.all.items dealt.0 c.collect.new.all.items
           c.deal.new.bundles c.turn_bundles.new.bundles (length c.args.bundles.now) c.len-count.result c.requires.some
           c.deal.ensures.many dealt.1 dealt.2 c.turn_bundles.ensures.gone size c.collect.ensures;

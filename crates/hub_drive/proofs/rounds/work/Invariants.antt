@@ -4,5 +4,5 @@ use Rattle.hub_drive.proofs.rounds.work.Given as goal
 abbrev pub invariant-loop : goal.invariant-loop
 invariant-loop g l = record {
   kept : EachAt (IsHere g.N.Node.stands l.hub) l.seats;
-  gone : PairsAt (HasGone g.N.Node.stands g.N.Node.stays g.N.Node.failed l.hub) l.initial.seats l.seats;
+  gone : PairsAt (HasGone g.N.Node.stands g.N.Node.stays g.N.Node.failed g.N.Node.broken l.hub) l.initial.seats l.seats;
 }

@@ -91,18 +91,22 @@ returns-clause-held g c = λ run seated stood.
     let round : Round = record { steps = c.args.seat.now.steps.steps; given = c.in-Ok.given } in
     stood_on g.N.Node.tells g.N.Node.stands g.met.N.Node.hands_in c.args.hub.now c.args.seat.now run seated
     c.turn.new.pass c.in-Ok.given c.in-Ok.ensures.ok c.in-Ok.ensures.sound g.N.Node.stays g.N.Node.failed
+    g.N.Node.broken
     c.work.new.self c.work.new.steps.steps
-    (came_by g.N.Node.stands g.N.Node.stays g.N.Node.failed (part_of run c.args.seat.now.pass.node)
+    (came_by g.N.Node.stands g.N.Node.stays g.N.Node.failed g.N.Node.broken (part_of run c.args.seat.now.pass.node)
     (round ∷ seated.rounds) c.work.new.steps.steps c.args.seat.now.node c.work.new.self c.work.result
     (c.work.ensures.works (part_of run c.args.seat.now.pass.node) seated.rounds c.args.seat.now.steps.steps seated.stood
     given)
-    c.work.ensures.stays c.work.ensures.failed)
+    c.work.ensures.stays c.work.ensures.failed
+    (c.work.ensures.broken (part_of run c.args.seat.now.pass.node) seated.rounds c.args.seat.now.steps.steps
+    seated.stood given))
 
 pub returns-in_default-clause-held : goal.returns-in_default-clause-held
 returns-in_default-clause-held g c = λ run seated stood.
     let kept : c.turn.new.steps.steps ≡ c.args.seat.now.steps.steps =
     ap (λ (w : Waiting). w.steps) c.in_default.ensures.kept in
-    subst (HasStood g.N.Node.stands g.N.Node.stays g.N.Node.failed run c.args.hub.now c.turn.new.pass
+    subst (HasStood g.N.Node.stands g.N.Node.stays g.N.Node.failed g.N.Node.broken run c.args.hub.now c.turn.new.pass
     c.args.seat.now.node) (sym kept)
-    (stood_still g.N.Node.stands g.N.Node.stays g.N.Node.failed run c.args.hub.now c.args.seat.now.pass c.turn.new.pass
+    (stood_still g.N.Node.stands g.N.Node.stays g.N.Node.failed g.N.Node.broken run c.args.hub.now
+    c.args.seat.now.pass c.turn.new.pass
     c.args.seat.now.node c.args.seat.now.steps.steps stood c.in_default.ensures.err)

@@ -5,6 +5,7 @@ use Rattle.server_tables.specs.declared.tables.Tables.{Tables}
 use Rattle.server_decides.specs.Deciding.{MayBeDone}
 use Rattle.server_decides.specs.Serving.{CameSo}
 use Rattle.server_decides.proofs.Parts.{at_place_is, decided_so}
+use Rattle.server_decides.proofs.Brings.{brought_at}
 use Rattle.server_decides.proofs.Saying.{says_then, unqueued_says}
 use Rattle.server_decides.proofs.Served.{came_at, served_less}
 use Rattle.server_decides.proofs.deciding.decide.Goals as goal
@@ -49,3 +50,8 @@ returns-clause-says g c sound =
     let so = unqueued_says x u d c.args.due.at c.unqueue-pending.result.number c.unqueue-pending.ensures.after sound in
     on_ok_weaker c.make.result (λ more. says_then x u c.make.new.tables d d c.make.new.draft so more)
     (c.make.ensures.says so.sound)
+
+pub returns-clause-went : goal.returns-clause-went
+returns-clause-went g c tells came all =
+    c.make.ensures.went tells came (brought_at came c.args.tables.now.pending c.args.due.at c.unqueue-pending.result
+    (c.requires.due.1.0, sym c.unqueue-pending.ensures.value) all)

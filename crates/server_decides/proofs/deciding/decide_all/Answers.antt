@@ -4,6 +4,7 @@ use Rattle.store_state.specs.declared.state.StoreState.{StoreState}
 use Rattle.server_says.proofs.Chains.{goes_none}
 use Rattle.server_decides.specs.Deciding.{Decides, IsDueSo, IsNextDue, NoneDue}
 use Rattle.server_decides.specs.Running.{making}
+use Rattle.server_decides.proofs.Brings.{decides_brought}
 use Rattle.server_decides.proofs.Steps.{decides_more, decides_still, fit_tried, gone_none, gone_tried, none_when}
 use Rattle.server_decides.proofs.Steps.{went_asked}
 use Rattle.server_decides.proofs.Saying.{says_none, says_then}
@@ -15,7 +16,7 @@ loop-init g c = record {
   served = c.requires.served;
   fit = c.requires.fit;
   gone = gone_none (g.S.Store.view c.args.keeper.now.store);
-  went = λ tells from h. h;
+  went = λ tells came all from h. h;
   goes = λ tells. goes_none Decides
       (making c.args.tables.now c.args.draft.now (g.S.Store.view c.args.keeper.now.store).state);
   says = λ sound. says_none c.args.tables.now c.args.draft.now sound;
@@ -35,7 +36,10 @@ loop-preserved g c =
       fit = fit_tried _ mid new c.decide.new.keeper.left made.tried;
       gone = gone_tried _ start mid new c.decide.new.keeper.left
           (gone_tried _ start old mid c.next_due.new.keeper.left inv.gone asked.tried) made.tried;
-      went = λ tells from h. made.went tells from (went_asked old mid (asked.state tells) from (inv.went tells from h));
+      went = λ tells came all from h. made.went tells came
+          (decides_brought came (making c.args.tables.now c.args.draft.now start.state)
+          (making c.loop.tables c.loop.draft old.state) (inv.goes tells) all) from
+          (went_asked came old mid (asked.state tells) from (inv.went tells came all from h));
       goes = λ tells. decides_more (making c.args.tables.now c.args.draft.now start.state) c.loop.tables
           c.decide.new.tables c.loop.draft c.decide.new.draft old.state mid.state new.state c.in-Some.due
           (asked.state tells) (inv.goes tells)
@@ -78,6 +82,15 @@ pub returns-in_default-clause-says : goal.returns-in_default-clause-says
 returns-in_default-clause-says g c sound = c.loop.invariant.says sound
 
 pub returns-in_default-clause-went : goal.returns-in_default-clause-went
-returns-in_default-clause-went g c tells = λ from h.
-    went_asked (g.S.Store.view c.loop.keeper.store) (g.S.Store.view c.next_due.new.keeper.store)
-    (c.in_ok-due.ensures.asked.state tells) from (c.loop.invariant.went tells from h)
+returns-in_default-clause-went g c tells came all = λ from h.
+    went_asked came (g.S.Store.view c.loop.keeper.store) (g.S.Store.view c.next_due.new.keeper.store)
+    (c.in_ok-due.ensures.asked.state tells) from (c.loop.invariant.went tells came all from h)
+
+pub returns-in_err-decide-clause-went : goal.returns-in_err-decide-clause-went
+returns-in_err-decide-clause-went g c tells came all = λ from h.
+    let old = g.S.Store.view c.loop.keeper.store in
+    c.in_err-decide.ensures.went tells came
+    (decides_brought came (making c.args.tables.now c.args.draft.now (g.S.Store.view c.args.keeper.now.store).state)
+    (making c.loop.tables c.loop.draft old.state) (c.loop.invariant.goes tells) all) from
+    (went_asked came old (g.S.Store.view c.next_due.new.keeper.store) (c.in_ok-due.ensures.asked.state tells) from
+    (c.loop.invariant.went tells came all from h))

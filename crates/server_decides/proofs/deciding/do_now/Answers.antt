@@ -1,4 +1,6 @@
+use Rattle.std.proofs.Common.{refl}
 use Rattle.server_says.specs.Writing.{written_made}
+use Rattle.server_decides.proofs.Brings.{change_brought}
 use Rattle.server_decides.proofs.Saying.{made_says, says_none, written_says}
 use Rattle.server_decides.proofs.Served.{change_here, host_hears}
 use Rattle.server_decides.proofs.Parts.{done_none, done_now, store_call, store_host, store_may, written_served}
@@ -57,3 +59,18 @@ returns-clause-says g c sound =
     (record { tables = made.tables; draft = made.draft })
     (written_says x d w.host change c.in_ok-reply.reply sound (host_hears x.server x.roster w c.requires.came)
     (change_here x.server x.roster w c.requires.came change c.in-Change.is) c.in_ok-reply.ensures.sound)
+
+pub returns-in_err-reply-clause-went : goal.returns-in_err-reply-clause-went
+returns-in_err-reply-clause-went g c tells came its =
+    c.in_err-reply.ensures.went tells came c.in-Change.change
+    (change_brought came c.args.wanted.now c.in-Change.change c.in-Change.is its) refl
+
+pub returns-in_err-write_down-clause-went : goal.returns-in_err-write_down-clause-went
+returns-in_err-write_down-clause-went g c tells came its =
+    c.in_ok-reply.ensures.went tells came c.in-Change.change
+    (change_brought came c.args.wanted.now c.in-Change.change c.in-Change.is its) refl
+
+pub returns-clause-went : goal.returns-clause-went
+returns-clause-went g c tells came its =
+    c.in_ok-reply.ensures.went tells came c.in-Change.change
+    (change_brought came c.args.wanted.now c.in-Change.change c.in-Change.is its) refl

@@ -1,6 +1,7 @@
-use Rattle.std.proofs.Common.{sym, subst}
+use Rattle.std.proofs.Common.{refl, sym, subst}
 use Rattle.message_types.specs.Soundness.{IsReply}
 use Rattle.server_says.specs.Writing.{written_made}
+use Rattle.server_decides.proofs.Brings.{change_brought}
 use Rattle.server_decides.proofs.Saying.{made_says, says_none, written_says}
 use Rattle.server_decides.proofs.Served.{change_here, host_hears}
 use Rattle.server_decides.proofs.Parts.{refused_none, refused_now, store_host, written_served}
@@ -46,3 +47,18 @@ returns-clause-says g c sound =
     (written_says x d w.host change c.in_ok-reply.reply sound (host_hears x.server x.roster w c.requires.came)
     (change_here x.server x.roster w c.requires.came change c.in-Change.is)
     (subst IsReply (sym c.in_ok-reply.ensures.reply) tt))
+
+pub returns-in_err-reply-clause-went : goal.returns-in_err-reply-clause-went
+returns-in_err-reply-clause-went g c tells came its =
+    c.in_err-reply.ensures.went tells came c.in-Change.change
+    (change_brought came c.args.wanted.now c.in-Change.change c.in-Change.is its) refl
+
+pub returns-in_err-write_down-clause-went : goal.returns-in_err-write_down-clause-went
+returns-in_err-write_down-clause-went g c tells came its =
+    c.in_ok-reply.ensures.went tells came c.in-Change.change
+    (change_brought came c.args.wanted.now c.in-Change.change c.in-Change.is its) refl
+
+pub returns-clause-went : goal.returns-clause-went
+returns-clause-went g c tells came its =
+    c.in_ok-reply.ensures.went tells came c.in-Change.change
+    (change_brought came c.args.wanted.now c.in-Change.change c.in-Change.is its) refl

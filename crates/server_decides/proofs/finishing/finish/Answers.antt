@@ -1,5 +1,6 @@
 use Rattle.token_manager.specs.Managers.{wanted}
 use Rattle.server_says.specs.Revoking.{not_asked}
+use Rattle.server_decides.proofs.Brings.{finished_brought}
 use Rattle.server_decides.proofs.Finished.{admits_served, back_served, finished_so, none_by}
 use Rattle.server_decides.proofs.Onward.{admits_says, back_says}
 use Rattle.server_decides.proofs.Saying.{says_then}
@@ -60,3 +61,9 @@ returns-clause-says g c sound =
     let sent = c.in_ok-send_all.ensures.says admitted.sound in
     let asked = back_says v y k e c.in_ok-revoke_all.ensures.tables c.in_ok-revoke_all.ensures.draft sent.sound in
     says_then x t y d a e decided (says_then t u y a b e admitted (says_then u v y b k e sent asked))
+
+pub returns-clause-brought : goal.returns-clause-brought
+returns-clause-brought g c tells came all =
+    finished_brought came c.args.tables.now c.revoke_all.new.tables c.args.draft.now c.revoke_all.new.draft
+    (g.S.Store.view c.args.keeper.now.store).state (g.S.Store.view c.next_due.new.keeper.store).state c.is_none.result
+    (returns-clause-finished g c tells) all

@@ -1,17 +1,21 @@
-use Rattle.std.proofs.Common.{◌≡◌, ◌∙◌, List, [], inl, inr, sym, subst}
+use Rattle.std.proofs.Common.{◌≡◌, ◌∙◌, List, [], inl, inr, refl, sym, subst}
 use Rattle.std.specs.Prelude.{IfOk}
 use Rattle.std.proofs.lemmas.Result.{IfOk-weaker, on_ok_weaker}
+use Rattle.message_types.specs.Soundness.{Each}
 use Rattle.store_acts.specs.Acts.{state_after}
 use Rattle.store_acts.specs.declared.act.Act.{Act}
 use Rattle.store_state.specs.declared.state.StoreState.{StoreState}
 use Rattle.server_says.proofs.Bodies.{give_known, on_ok_is}
+use Rattle.server_says.proofs.Brought.{more_done}
 use Rattle.server_says.specs.Acts.{IsLimited}
+use Rattle.server_says.specs.Keepers.{IsDoneFor}
 use Rattle.server_decides.specs.Finishing.{IsFinished, IsTakenAndFinished}
 use Rattle.server_decides.specs.Running.{making}
 use Rattle.server_decides.specs.Saying.{SaysOn}
 use Rattle.server_decides.specs.Serving.{IsServed}
+use Rattle.server_decides.proofs.Brings.{finished_brought}
 use Rattle.server_decides.proofs.Gathered.{gives_more, none_wait, served_after}
-use Rattle.server_decides.proofs.Heard.{heard_served}
+use Rattle.server_decides.proofs.Heard.{heard_brought, heard_served}
 use Rattle.server_decides.proofs.Onward.{heard_says}
 use Rattle.server_decides.proofs.Saying.{says_then}
 use Rattle.server_decides.proofs.Steps.{served_asked}
@@ -156,3 +160,50 @@ returns-clause-stays g c = on_ok_is c.finish.result _ (inl c.in_ok-store_all.ens
 
 pub returns-then-is_idle-clause-stays : goal.returns-then-is_idle-clause-stays
 returns-then-is_idle-clause-stays g c = inr (λ tells. c.in_ok-gather_message.ensures.asked.state tells)
+
+pub returns-clause-went : goal.returns-clause-went
+returns-clause-went g c tells came its all waits = λ from h.
+    let more = more_done came c.args.message.now.host c.args.give.now c.args.waiting.now c.gather_message.new.waiting
+    c.in_ok-gather_message.ensures.waits (c.args.message.now, its, refl, c.requires.body) waits in
+    c.finish.ensures.went tells came
+    (heard_brought c.args.tables.now c.gather_message.new.tables c.args.draft.now c.gather_message.new.draft
+    c.args.message.now came its c.in_ok-gather_message.ensures.heard all) from
+    (c.in_ok-store_all.ensures.went tells came more from (c.in_ok-gather_message.ensures.went tells came from h))
+
+pub returns-in_err-store_all-clause-went : goal.returns-in_err-store_all-clause-went
+returns-in_err-store_all-clause-went g c tells came its all waits = λ from h.
+    let more = more_done came c.args.message.now.host c.args.give.now c.args.waiting.now c.gather_message.new.waiting
+    c.in_ok-gather_message.ensures.waits (c.args.message.now, its, refl, c.requires.body) waits in
+    c.in_err-store_all.ensures.went tells came more from (c.in_ok-gather_message.ensures.went tells came from h)
+
+pub returns-clause-waits : goal.returns-clause-waits
+returns-clause-waits g c came its waits =
+    on_ok_is c.finish.result _
+    (subst (λ (l : List Act). Each (IsDoneFor came) l) (sym c.in_ok-store_all.ensures.none) tt)
+
+pub returns-then-is_idle-clause-waits : goal.returns-then-is_idle-clause-waits
+returns-then-is_idle-clause-waits g c came its waits =
+    more_done came c.args.message.now.host c.args.give.now c.args.waiting.now c.gather_message.new.waiting
+    c.in_ok-gather_message.ensures.waits (c.args.message.now, its, refl, c.requires.body) waits
+
+pub returns-clause-brought : goal.returns-clause-brought
+returns-clause-brought g c tells came its all =
+    c.finish.ensures.brought tells came
+    (heard_brought c.args.tables.now c.gather_message.new.tables c.args.draft.now c.gather_message.new.draft
+    c.args.message.now came its c.in_ok-gather_message.ensures.heard all)
+
+pub returns-then-is_idle-clause-brought : goal.returns-then-is_idle-clause-brought
+returns-then-is_idle-clause-brought g c tells came its all =
+    let x = c.args.tables.now in
+    let t = c.gather_message.new.tables in
+    let a = c.gather_message.new.draft in
+    let d = c.args.draft.now in
+    let m = c.args.message.now in
+    let mid = (g.S.Store.view c.gather_message.new.keeper.store).state in
+    let served : IsServed t mid = heard_served x t d a m (g.S.Store.view c.args.keeper.now.store)
+    (g.S.Store.view c.gather_message.new.keeper.store) c.requires.served c.requires.given
+    c.in_ok-gather_message.ensures.heard c.in_ok-gather_message.ensures.counted
+    c.in_ok-gather_message.ensures.asked.tried.same in
+    finished_brought came t c.finish_idle.new.tables a c.finish_idle.new.draft mid mid _
+    (c.in_ok-finish_idle.ensures.finished mid served)
+    (heard_brought x t d a m came its c.in_ok-gather_message.ensures.heard all)

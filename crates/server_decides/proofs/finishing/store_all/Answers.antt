@@ -4,6 +4,7 @@ use Rattle.store_acts.specs.Acts.{state_after}
 use Rattle.store_acts.specs.Sound.{AreActs}
 use Rattle.store_acts.specs.declared.act.Act.{Act}
 use Rattle.server_says.proofs.GivenAgain.{gives_repeat}
+use Rattle.server_says.specs.Keepers.{IsDoneFor}
 use Rattle.server_says.specs.Acts.{AreRepeatable, IsGive}
 use Rattle.server_decides.proofs.finishing.store_all.Goals as goal
 
@@ -25,3 +26,13 @@ returns-clause-state g c tells limited =
     c.in_ok-give_all.ensures.state tells (subst (λ (l : List Act). AreRepeatable start l) (sym c.as_slice.ensures)
     (gives_repeat start c.args.waiting.now limited gives.gives gives.each))
     ∙ ap (λ (l : List Act). state_after start l) c.as_slice.ensures
+
+pub returns-clause-went : goal.returns-clause-went
+returns-clause-went g c tells came waits =
+    c.in_ok-give_all.ensures.went tells came
+    (subst (λ (l : List Act). Each (IsDoneFor came) l) (sym c.as_slice.ensures) waits)
+
+pub returns-in_err-give_all-clause-went : goal.returns-in_err-give_all-clause-went
+returns-in_err-give_all-clause-went g c tells came waits =
+    c.in_err-give_all.ensures.went tells came
+    (subst (λ (l : List Act). Each (IsDoneFor came) l) (sym c.as_slice.ensures) waits)

@@ -3,7 +3,7 @@ use Rattle.server_decides.specs.Finishing.{IsFinished, IsTakenAndFinished}
 use Rattle.server_decides.specs.Running.{making}
 use Rattle.server_decides.specs.Saying.{SaysOn}
 use Rattle.server_decides.proofs.Onward.{heard_says}
-use Rattle.server_decides.proofs.Heard.{heard_served}
+use Rattle.server_decides.proofs.Heard.{heard_brought, heard_served}
 use Rattle.server_decides.proofs.Saying.{says_then}
 use Rattle.server_decides.proofs.finishing.take_and_finish.Goals as goal
 
@@ -49,3 +49,16 @@ returns-clause-says g c sound =
     on_ok_weaker c.finish.result
     (λ more. says_then x t c.finish.new.tables d a c.finish.new.draft heard more)
     (c.finish.ensures.says heard.sound)
+
+pub returns-clause-went : goal.returns-clause-went
+returns-clause-went g c tells came its all = λ from h.
+    c.finish.ensures.went tells came
+    (heard_brought c.args.tables.now c.take_message.new.tables c.args.draft.now c.take_message.new.draft
+    c.args.message.now came its c.in_ok-take_message.ensures.heard all) from
+    (c.in_ok-take_message.ensures.went tells came its from h)
+
+pub returns-clause-brought : goal.returns-clause-brought
+returns-clause-brought g c tells came its all =
+    c.finish.ensures.brought tells came
+    (heard_brought c.args.tables.now c.take_message.new.tables c.args.draft.now c.take_message.new.draft
+    c.args.message.now came its c.in_ok-take_message.ensures.heard all)

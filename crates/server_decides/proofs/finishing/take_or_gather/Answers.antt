@@ -1,8 +1,10 @@
 use Rattle.std.proofs.Common.{◌≡◌, List, inl, sym, subst}
 use Rattle.std.specs.Prelude.{IfOk}
+use Rattle.message_types.specs.Soundness.{Each}
 use Rattle.store_acts.specs.Acts.{state_after}
 use Rattle.store_acts.specs.declared.act.Act.{Act}
 use Rattle.store_state.specs.declared.state.StoreState.{StoreState}
+use Rattle.server_says.specs.Keepers.{IsDoneFor}
 use Rattle.server_says.proofs.Bodies.{on_ok_is}
 use Rattle.server_decides.proofs.Gathered.{none_wait}
 use Rattle.server_decides.proofs.Steps.{served_asked}
@@ -38,3 +40,8 @@ returns-clause-gives g c =
 
 pub returns-clause-stays : goal.returns-clause-stays
 returns-clause-stays g c = on_ok_is c.take_and_finish.result _ (inl c.in_ok-store_all.ensures.none)
+
+pub returns-clause-waits : goal.returns-clause-waits
+returns-clause-waits g c came its all =
+    on_ok_is c.take_and_finish.result _
+    (subst (λ (l : List Act). Each (IsDoneFor came) l) (sym c.in_ok-store_all.ensures.none) tt)

@@ -18,17 +18,17 @@ returns-in_err-first_reply-clause-fault g c tells fit =
 pub returns-in_err-dones-clause-went : goal.returns-in_err-dones-clause-went
 returns-in_err-dones-clause-went g c =
     went_first g.S.Store.tells g.S.Store.view c.args.keeper.now.store c.spend.new.self.store c.apply.new.self
-    c.in_ok-spend.ensures.store c.args.batch.now c.requires.acts c.requires.running c.requires.fits
+    c.in_ok-spend.ensures.store c.args.batch.now c.requires.acts c.requires.fits
     c.in_err-dones.ensures.same c.in_err-dones.ensures.fault
 
 pub returns-in_err-first_reply-clause-went : goal.returns-in_err-first_reply-clause-went
 returns-in_err-first_reply-clause-went g c =
     went_all g.S.Store.tells g.S.Store.view c.args.keeper.now.store c.spend.new.self.store c.apply.new.self
-    c.in_ok-spend.ensures.store c.args.batch.now c.requires.acts c.requires.running c.requires.fits
+    c.in_ok-spend.ensures.store c.args.batch.now c.requires.acts c.requires.fits
     c.in_ok-dones.ensures.same c.in_ok-dones.ensures.state
 
 pub returns-clause-went : goal.returns-clause-went
 returns-clause-went g c =
     went_all g.S.Store.tells g.S.Store.view c.args.keeper.now.store c.spend.new.self.store c.apply.new.self
-    c.in_ok-spend.ensures.store c.args.batch.now c.requires.acts c.requires.running c.requires.fits
+    c.in_ok-spend.ensures.store c.args.batch.now c.requires.acts c.requires.fits
     c.in_ok-dones.ensures.same c.in_ok-dones.ensures.state

@@ -32,3 +32,9 @@ returns-in-Err-Store-clause-state g c tells again =
     let fits = fits_once_more start opened c.args.act again so_far in
     on_ok_then c.apply_batch-in-Err-Store.result _ _ (λ e. e ∙ state_once_more start opened c.args.act again so_far)
     (c.apply_batch-in-Err-Store.ensures.state tells fits)
+
+pub apply_batch-requires-clause-fits : goal.apply_batch-requires-clause-fits
+apply_batch-requires-clause-fits g c = λ state. (c.requires.fits state, tt)
+
+pub apply_batch-requires-in-Err-Store-clause-fits : goal.apply_batch-requires-in-Err-Store-clause-fits
+apply_batch-requires-in-Err-Store-clause-fits g c = λ state. (c.requires.fits state, tt)

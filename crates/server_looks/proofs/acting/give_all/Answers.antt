@@ -1,16 +1,10 @@
 use Rattle.std.proofs.Common.{◌≡◌, ◌∙◌}
 use Rattle.server_looks.proofs.Again.{all_fit_again, all_once_more}
-use Rattle.server_looks.proofs.GivenAgain.{all_fit, gives_run}
+use Rattle.server_looks.proofs.GivenAgain.{all_fit}
 use Rattle.server_looks.proofs.acting.give_all.Goals as goal
-
-pub apply_batch-requires-clause-running : goal.apply_batch-requires-clause-running
-apply_batch-requires-clause-running g c = gives_run c.args.gives.now c.requires.gives
 
 pub apply_batch-requires-clause-fits : goal.apply_batch-requires-clause-fits
 apply_batch-requires-clause-fits g c = λ state. all_fit c.args.gives.now state c.requires.gives
-
-pub apply_batch-requires-in-Err-Store-clause-running : goal.apply_batch-requires-in-Err-Store-clause-running
-apply_batch-requires-in-Err-Store-clause-running g c = gives_run c.args.gives.now c.requires.gives
 
 pub apply_batch-requires-in-Err-Store-clause-fits : goal.apply_batch-requires-in-Err-Store-clause-fits
 apply_batch-requires-in-Err-Store-clause-fits g c = λ state. all_fit c.args.gives.now state c.requires.gives

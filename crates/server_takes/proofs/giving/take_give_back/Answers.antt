@@ -9,7 +9,9 @@ use Rattle.store_acts.specs.Sound.{AreActs, IsAct}
 use Rattle.store_acts.specs.declared.act.Act.{Act}
 use Rattle.store_memory.specs.Reading.{status_told}
 use Rattle.server_looks.specs.Acts.{AreRepeatable, IsGive, giving}
+use Rattle.server_looks.specs.Keepers.{IsDoneFor}
 use Rattle.server_takes.proofs.Bodies.{on_ok_is}
+use Rattle.server_takes.proofs.Brought.{more_done}
 use Rattle.server_takes.proofs.Gathered.{one_acts, one_gives, one_repeats}
 use Rattle.server_takes.specs.Messages.{IsOneMore}
 use Rattle.server_takes.specs.Taking.{give_draft, give_state}
@@ -69,3 +71,12 @@ returns-clause-state g c tells again =
     (c.give_all.ensures.state tells (subst (λ (l : List Act). AreRepeatable mid l) (sym c.as_slice.ensures)
     (one_repeats c.args.host c.args.give.now c.gather_give_back.new.waiting start mid
     (c.in_ok-gather_give_back.ensures.asked.state tells) more again)))
+
+pub returns-clause-went : goal.returns-clause-went
+returns-clause-went g c tells came brought =
+    let more = subst (λ (w : List Act). IsOneMore c.args.host c.args.give.now w c.gather_give_back.new.waiting)
+    c.new-waiting.ensures c.in_ok-gather_give_back.ensures.waits in
+    λ from h. c.give_all.ensures.went tells came (subst (λ (l : List Act). Each (IsDoneFor came) l)
+    (sym c.as_slice.ensures)
+    (more_done came c.args.host c.args.give.now [] c.gather_give_back.new.waiting more brought tt))
+    from (c.in_ok-gather_give_back.ensures.went tells came from h)

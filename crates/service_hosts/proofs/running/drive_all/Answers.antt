@@ -11,7 +11,8 @@ use Rattle.run_rules.specs.declared.journal.Journal.{Journal}
 use Rattle.hub_drive.specs.declared.driver.DriveFault.TheVariants as drive
 use Rattle.service_hosts.specs.Nodes.{AreOver, next_line}
 use Rattle.service_hosts.specs.declared.running.HostsStopped.{HostsStopped}
-use Rattle.service_hosts.proofs.Driven.{FailedSo, StaysSo, are_back, are_nodes, are_same, as_many, err_at, ok_at}
+use Rattle.service_hosts.proofs.Driven.{BrokenSo, FailedSo, StaysSo, are_back, are_nodes, are_same, as_many, err_at}
+use Rattle.service_hosts.proofs.Driven.{ok_at}
 use Rattle.service_hosts.proofs.Driven.{on_err_at, one_over, over_back}
 use Rattle.service_hosts.proofs.Driven.{stopped_so, stops_by, taken_back}
 use Rattle.service_hosts.proofs.Ending.{has_hosted, held_by, lacks_by, so_far_by, so_far_ended}
@@ -233,5 +234,6 @@ returns-in-Err-clause-held g c = λ stores over epochs.
     (ap (λ (l : List g.row.S.Denot). length l) taken ∙ long) epochs
     (err_at result fault (λ f. so_far ≡ None → f ≡ drive.Memory) c.in-Err.is c.drive-driven.ensures.lacks)
     (on_err_at result fault ((journal : Journal) × HasStopped (Unit {0} × tells)
-    (stands_any HostStands (ServerStands tells view)) (StaysSo tells view) (FailedSo tells view) script start
+    (stands_any HostStands (ServerStands tells view)) (StaysSo tells view) (FailedSo tells view)
+    (BrokenSo tells view) script start
     c.args.epochs news journal) c.in-Err.is c.drive-driven.ensures.held))

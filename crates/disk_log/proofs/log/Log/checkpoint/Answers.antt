@@ -1,4 +1,4 @@
-use Rattle.std.proofs.Common.{◌∙◌, [], List, ℕ, Option, refl, ap, sym, subst, arith}
+use Rattle.std.proofs.Common.{◌∙◌, ◌≡◌, [], List, ℕ, Option, length, refl, ap, sym, subst, arith}
 use Rattle.base_outside.proofs.Runs.{then, weaker}
 use Rattle.disk_layout.specs.declared.half.Half.{Half}
 use Rattle.disk_layout.specs.declared.entry.Entry.{Entry}
@@ -7,14 +7,13 @@ use Rattle.disk_log.specs.Puts.{page_of}
 use Rattle.disk_log.specs.Append.{AllFit}
 use Rattle.disk_log.specs.Recovered.{AreRecovered}
 use Rattle.disk_layout.specs.Entry.{entries}
-use Rattle.disk_layout.specs.Places.{in_place}
 use Rattle.disk_layout.specs.Half.{IsLog}
 use Rattle.disk_layout.proofs.Words.{superblock_same}
 use Rattle.disk_log.specs.State.{State, fresh_state}
 use Rattle.disk_log.specs.Switch.{half_after, next_half, IsUsed}
 use Rattle.disk_log.proofs.Calls.{sound_as}
 use Rattle.disk_log.proofs.Fresh.{sides_of, other_placed, emptied_sound}
-use Rattle.disk_log.proofs.Emptying.{none_put, keeps_holding, used_whole, used_by, pages_known, then_left, page_emptied, all_firsts, no_puts}
+use Rattle.disk_log.proofs.Emptying.{none_put, kept_all, keeps_holding, used_whole, used_by, pages_known, then_left, page_emptied, all_firsts, no_puts}
 use Rattle.disk_log.proofs.Keeping.{emptied_stages}
 use Rattle.disk_log.proofs.log.Log.checkpoint.Goals as goal
 
@@ -59,11 +58,13 @@ returns-clause-sound g c =
     let image = (g.D.Disk.view c.checkpoint.new.disk).image in
     let sound = c.in_ok-force.ensures.sound in
     let next = c.next_half-next.ensures in
-    sound_as _ _ _ _ (fresh_state kept.superblock (next_half kept.half)) _ refl (c.restart.ensures.state ∙ ap (fresh_state kept.superblock) next)
-    (emptied_sound _ _ kept.superblock (next_half kept.half) _ (other_placed kept.half.start _ (sides_of kept.half sound.steady.placed)) sound.blocks sound.many (c.restart.ensures.size ∙ sound.slots)
-    (λ told. keeps_holding _ forced mid image (none_put state forced c.requires.sound.accounts c.requires.none_open c.in_ok-force.ensures.state) (c.restart.ensures.size ∙ sound.slots)
-    (λ p lt. c.in_ok-checkpoint.ensures.placed told p lt ∙ pages_known _ old mid _ _ state forced c.requires.sound c.requires.none_open sound c.in_ok-force.ensures.state told (c.force.ensures.pages told) p ∙ sym (c.force.ensures.pages told p))
-    (c.restart.ensures.pages (in_place mid.image) (sound.kept told)))
+    let is = c.in_ok-force.ensures.state in
+    let all : forced.forced ≡ length forced.entries = ap (λ (s : State). s.forced) is ∙ ap (λ (s : State). length s.entries) (sym is) in
+    sound_as _ _ _ _ (fresh_state kept.superblock (next_half kept.half)) _ c.restart.ensures.pages (c.restart.ensures.state ∙ ap (fresh_state kept.superblock) next)
+    (emptied_sound _ _ kept.superblock (next_half kept.half) _ (other_placed kept.half.start _ (sides_of kept.half sound.steady.placed)) sound.blocks sound.many sound.slots
+    (λ told. keeps_holding _ forced mid image (none_put state forced c.requires.sound.accounts c.requires.none_open is) sound.slots
+    (λ p lt. c.in_ok-checkpoint.ensures.placed told p lt ∙ pages_known _ old mid _ _ state forced c.requires.sound c.requires.none_open sound is told (c.force.ensures.pages told) p ∙ sym (c.force.ensures.pages told p))
+    (kept_all _ mid _ forced sound all told))
     (λ told. superblock_same kept.superblock mid.image image (c.checkpoint.ensures.front told) (sound.front told))
     (λ told. subst (λ (l : Half). IsLog (half_after kept.half l.start) [] image) next (c.in_ok-checkpoint.ensures.switched told)) c.in_ok-checkpoint.ensures.settled)
 

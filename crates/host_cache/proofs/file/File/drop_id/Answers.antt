@@ -10,5 +10,5 @@ returns c =
     let s = c.self.inside in
     let e : c.retain.new.self.items ≡ filter (λ (t : Token). not (same_id t.id c.args.id)) s.tokens.items =
     filter_same _ _ _ (λ x b f' k. search rules) _ _ c.retain.ensures.filtered in
-    (λ i. record { tokens = e i; status = s.status; entries = s.entries; bytes = s.bytes.items })
+    (λ i. record { tokens = e i; status = s.status; entries = s.entries; bytes = s.bytes })
     ∙ ap (without_token c.args.id) c.self.view_is

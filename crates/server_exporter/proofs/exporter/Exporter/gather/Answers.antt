@@ -4,10 +4,12 @@ use Rattle.base_types.specs.declared.ids.Node.TheVariants.{Server}
 use Rattle.run_rules.specs.declared.step.Cause.TheVariants.{Message as Came}
 use Rattle.run_rules.specs.declared.step.Step.{Step}
 use Rattle.server_decides.proofs.StepsMade.{if_made, step_made}
+use Rattle.message_types.specs.Soundness.{Each}
 use Rattle.store_acts.specs.Acts.{state_after}
 use Rattle.server_decides.proofs.Gathered.{served_after, served_then}
 use Rattle.server_decides.specs.Gathering.{AreGives, IsStoredOrSame}
-use Rattle.server_decides.specs.Serving.{IsServed}
+use Rattle.server_decides.specs.Keepers.{IsDoneFor}
+use Rattle.server_decides.specs.Serving.{AreBrought, IsServed}
 use Rattle.server_tables.specs.Sound.{AreSound}
 use Rattle.server_exporter.specs.Machines.{Follows, IsSame, Meets, Says}
 use Rattle.server_exporter.specs.declared.exporter.Exporter.{Exporter}
@@ -126,3 +128,14 @@ returns-clause-sound g c sound =
     if_made c.take_or_gather-made.result c.into_step-step.result c.step_if_stored.result c.step_if_stored.ensures.step
     (AreSound c.take_or_gather-made.new.tables)
     (on_ok_weaker c.take_or_gather-made.result (λ so. so.sound) (c.take_or_gather-made.ensures.says sound))
+
+pub returns-clause-brought : goal.returns-clause-brought
+returns-clause-brought g c tells came its all =
+    if_made c.take_or_gather-made.result c.into_step-step.result c.step_if_stored.result c.step_if_stored.ensures.step
+    (AreBrought came c.take_or_gather-made.new.tables.pending)
+    (c.take_or_gather-made.ensures.brought tells came its all)
+
+pub returns-clause-waits : goal.returns-clause-waits
+returns-clause-waits g c came its waits =
+    if_made c.take_or_gather-made.result c.into_step-step.result c.step_if_stored.result c.step_if_stored.ensures.step
+    (Each (IsDoneFor came) c.take_or_gather-made.new.waiting) (c.take_or_gather-made.ensures.waits came its waits)

@@ -5,7 +5,8 @@ use Rattle.run_rules.specs.declared.step.Step.{Step}
 use Rattle.std.proofs.lemmas.Result.{IfOk-weaker}
 use Rattle.server_exporter.specs.Machines.{MeetsAlone, Says}
 use Rattle.server_decides.specs.Revoking.{lapse_step}
-use Rattle.server_exporter.proofs.Calls.{lapse_follows_all, lapse_keeps, lapse_same, lapse_served, numbered}
+use Rattle.server_exporter.proofs.Calls.{lapse_brought, lapse_follows_all, lapse_keeps, lapse_same, lapse_served}
+use Rattle.server_exporter.proofs.Calls.{numbered}
 use Rattle.server_exporter.proofs.Lapsed.{lapse_meets}
 use Rattle.server_exporter.proofs.Spoken.{lapse_sound_all, says_lapse}
 use Rattle.server_exporter.proofs.exporter.Exporter.lapse.Goals as goal
@@ -57,3 +58,7 @@ returns-clause-sends c sound = let x = c.args.self.now.tables in
 pub returns-clause-sound : goal.returns-clause-sound
 returns-clause-sound c sound =
     lapse_sound_all c.lapse_step.result c.args.self.now.tables c.lapse_step.new.tables c.lapse_step.ensures.tables sound
+
+pub returns-clause-brought : goal.returns-clause-brought
+returns-clause-brought c = let x = c.args.self.now in let t = c.lapse_step.new.tables in
+    lapse_brought c.lapse_step.result x (record x { tables = t }) t refl c.lapse_step.ensures.tables

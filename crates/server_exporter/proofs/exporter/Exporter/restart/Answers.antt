@@ -1,9 +1,11 @@
-use Rattle.std.proofs.Common.{◌≡◌, ap}
+use Rattle.std.proofs.Common.{◌≡◌, ap, sym, subst}
 use Rattle.base_types.specs.declared.ids.Node.TheVariants.{Server}
 use Rattle.run_rules.specs.declared.step.Step.{Step}
-use Rattle.std.proofs.lemmas.Result.{IfOk-weaker}
+use Rattle.std.proofs.lemmas.Result.{IfOk-weaker, on_ok_weaker}
 use Rattle.server_decides.specs.Hailing.{restarting}
+use Rattle.server_decides.specs.Serving.{AreBrought}
 use Rattle.server_exporter.specs.Machines.{IsRestart, MeetsOnLine, Says}
+use Rattle.server_exporter.specs.declared.exporter.Exporter.{Exporter}
 use Rattle.server_exporter.proofs.Begins.{restart_meets}
 use Rattle.server_exporter.proofs.Begun.{restart_follows_all, restart_same, restart_served}
 use Rattle.server_exporter.proofs.Spoken.{begun_sound_all, says_restart}
@@ -40,3 +42,8 @@ returns-clause-sends g c sound = let x = c.args.self.now.tables in
 pub returns-clause-sound : goal.returns-clause-sound
 returns-clause-sound g c sound =
     begun_sound_all c.begin.result c.args.self.now c.begin.new.self c.begin.ensures.after sound
+
+pub returns-clause-brought : goal.returns-clause-brought
+returns-clause-brought g c came =
+    on_ok_weaker c.begin.result
+    (λ e. subst (λ (y : Exporter). AreBrought came y.tables.pending) (sym e) tt) c.begin.ensures.after

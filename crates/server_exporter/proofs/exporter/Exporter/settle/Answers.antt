@@ -4,7 +4,7 @@ use Rattle.base_types.specs.declared.ids.Node.TheVariants.{Server}
 use Rattle.run_rules.specs.declared.step.Cause.TheVariants.{Flushed}
 use Rattle.run_rules.specs.declared.step.Step.{Step}
 use Rattle.server_decides.proofs.StepsMade.{if_made, step_made}
-use Rattle.server_decides.specs.Serving.{IsServed}
+use Rattle.server_decides.specs.Serving.{AreBrought, IsServed}
 use Rattle.server_tables.specs.Sound.{AreSound}
 use Rattle.server_exporter.specs.Machines.{Follows, IsSame, Meets, Says}
 use Rattle.server_exporter.specs.declared.exporter.Exporter.{Exporter}
@@ -87,3 +87,8 @@ returns-clause-sound g c sound =
     if_made c.finish-made.result c.into_step-step.result c.step_if_stored.result c.step_if_stored.ensures.step
     (AreSound c.finish-made.new.tables)
     (on_ok_weaker c.finish-made.result (λ so. so.sound) (c.finish-made.ensures.says sound))
+
+pub returns-clause-brought : goal.returns-clause-brought
+returns-clause-brought g c tells came all =
+    if_made c.finish-made.result c.into_step-step.result c.step_if_stored.result c.step_if_stored.ensures.step
+    (AreBrought came c.finish-made.new.tables.pending) (c.finish-made.ensures.brought tells came all)

@@ -4,7 +4,7 @@ use Rattle.base_types.specs.declared.ids.Node.TheVariants.{Server}
 use Rattle.run_rules.specs.declared.step.Cause.TheVariants.{Message as Came}
 use Rattle.run_rules.specs.declared.step.Step.{Step}
 use Rattle.server_decides.proofs.StepsMade.{if_made, step_made}
-use Rattle.server_decides.specs.Serving.{IsServed}
+use Rattle.server_decides.specs.Serving.{AreBrought, IsServed}
 use Rattle.server_tables.specs.Sound.{AreSound}
 use Rattle.server_exporter.specs.Machines.{Follows, IsSame, Meets, Says}
 use Rattle.server_exporter.specs.declared.exporter.Exporter.{Exporter}
@@ -96,3 +96,9 @@ returns-clause-sound g c sound =
     if_made c.take_and_finish-made.result c.into_step-step.result c.step_if_stored.result c.step_if_stored.ensures.step
     (AreSound c.take_and_finish-made.new.tables)
     (on_ok_weaker c.take_and_finish-made.result (λ so. so.sound) (c.take_and_finish-made.ensures.says sound))
+
+pub returns-clause-brought : goal.returns-clause-brought
+returns-clause-brought g c tells came its all =
+    if_made c.take_and_finish-made.result c.into_step-step.result c.step_if_stored.result c.step_if_stored.ensures.step
+    (AreBrought came c.take_and_finish-made.new.tables.pending)
+    (c.take_and_finish-made.ensures.brought tells came its all)

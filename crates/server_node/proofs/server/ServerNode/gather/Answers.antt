@@ -1,8 +1,10 @@
 use Rattle.std.proofs.Common.{List, ◌++◌}
 use Rattle.run_rules.specs.declared.step.Step.{Step}
+use Rattle.message_types.specs.Soundness.{Each}
 use Rattle.server_exporter.specs.Gathering.{AreGives}
+use Rattle.server_exporter.specs.Keepers.{IsDoneFor}
 use Rattle.server_node.proofs.Kept.{first_theirs, latest_but}
-use Rattle.server_node.proofs.Staying.{served_by}
+use Rattle.server_node.proofs.Staying.{all_then, first_in, rest_in, served_by}
 use Rattle.server_node.proofs.Turns.{Gathers, gathered_then, made_then, pushed, ready_then}
 use Rattle.server_node.specs.Standing.{latest_first}
 use Rattle.server_node.specs.declared.server.ServerNode.{ServerNode}
@@ -61,7 +63,34 @@ returns-clause-stays g c =
       inbox = c.remove-message.new.self;
     } in
     served_by g.S.Store.tells g.S.Store.view c.gather-made.result c.args.self.now now c.gather-made.ensures.tried
-    c.gather-made.ensures.went
 
 pub returns-clause-failed : goal.returns-clause-failed
 returns-clause-failed g c = λ e. c.gather-made.ensures.tried.blame (c.push_made.ensures.err e)
+
+pub returns-clause-went : goal.returns-clause-went
+returns-clause-went g c tells came all waits =
+    c.gather-made.ensures.went tells came
+    (first_in came c.args.self.now.inbox c.remove-message.result c.requires.some c.remove-message.ensures.value all.1)
+    all.0 waits
+
+pub returns-clause-all : goal.returns-clause-all
+returns-clause-all g c tells came all waits =
+    let now : ServerNode g.row.S.Denot =
+    record c.args.self.now {
+      exporter = c.gather-made.new.self;
+      keeper = c.gather-made.new.keeper;
+      inbox = c.remove-message.new.self;
+    } in
+    all_then came c.gather-made.result c.push_made.result now c.push_made.ensures.made
+    (c.gather-made.ensures.brought tells came
+    (first_in came c.args.self.now.inbox c.remove-message.result c.requires.some c.remove-message.ensures.value all.1)
+    all.0)
+    (rest_in came c.args.self.now.inbox c.remove-message.new.self c.remove-message.ensures.rest all.1)
+
+pub returns-clause-done_for : goal.returns-clause-done_for
+returns-clause-done_for g c came kept waits =
+    made_then c.gather-made.result c.push_made.result (Each (IsDoneFor came) c.gather-made.new.waiting)
+    c.push_made.ensures.made
+    (c.gather-made.ensures.waits came
+    (first_in came c.args.self.now.inbox c.remove-message.result c.requires.some c.remove-message.ensures.value kept)
+    waits)

@@ -25,3 +25,17 @@ returns-in-Ok-clause-failed g c = λ e.
 pub returns-in-Ok-clause-inbox : goal.returns-in-Ok-clause-inbox
 returns-in-Ok-clause-inbox g c =
     all_ok c.settle_gathered.result (c.settle_gathered.ensures.inbox ∙ c.gather.ensures.inbox)
+
+pub returns-in-Ok-clause-went : goal.returns-in-Ok-clause-went
+returns-in-Ok-clause-went g c tells came all waits = λ from h.
+    c.settle_gathered.ensures.went tells came (c.in-Ok.ensures.all tells came all waits)
+    (c.in-Ok.ensures.done_for came all.1 waits) from (c.gather.ensures.went tells came all waits from h)
+
+pub returns-in-Ok-clause-all : goal.returns-in-Ok-clause-all
+returns-in-Ok-clause-all g c tells came all waits =
+    c.settle_gathered.ensures.all tells came (c.in-Ok.ensures.all tells came all waits)
+    (c.in-Ok.ensures.done_for came all.1 waits)
+
+pub returns-in-Ok-clause-done_for : goal.returns-in-Ok-clause-done_for
+returns-in-Ok-clause-done_for g c came kept waits =
+    c.settle_gathered.ensures.done_for came (c.in-Ok.ensures.done_for came kept waits)

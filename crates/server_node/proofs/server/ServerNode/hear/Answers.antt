@@ -1,7 +1,7 @@
 use Rattle.std.proofs.Common.{List, [], ◌∷◌}
 use Rattle.run_rules.specs.declared.step.Step.{Step}
 use Rattle.server_node.proofs.Standing.{stands_on, to_server}
-use Rattle.server_node.proofs.Staying.{served_by}
+use Rattle.server_node.proofs.Staying.{all_then, served_by}
 use Rattle.server_node.specs.Laws.{stays_so}
 use Rattle.server_node.proofs.Turns.{heard_then, pushed, ready_then}
 use Rattle.server_node.specs.Standing.{StandsSo}
@@ -41,7 +41,6 @@ returns-then-is_to_server-clause-stays g c =
     let now : ServerNode g.row.S.Denot =
     record c.args.self.now { exporter = c.take-made.new.self; keeper = c.take-made.new.keeper } in
     served_by g.S.Store.tells g.S.Store.view c.take-made.result c.args.self.now now c.take-made.ensures.tried
-    c.take-made.ensures.went
 
 pub returns-then-is_to_server-clause-failed : goal.returns-then-is_to_server-clause-failed
 returns-then-is_to_server-clause-failed g c = λ e. c.take-made.ensures.tried.blame (c.push_made.ensures.err e)
@@ -54,3 +53,13 @@ returns-clause-works g c = λ part past so.
 
 pub returns-clause-stays : goal.returns-clause-stays
 returns-clause-stays g c = stays_so g.S.Store.tells g.S.Store.view c.args.self.now
+
+pub returns-then-is_to_server-clause-went : goal.returns-then-is_to_server-clause-went
+returns-then-is_to_server-clause-went g c tells came all its = c.take-made.ensures.went tells came its all.0
+
+pub returns-then-is_to_server-clause-all : goal.returns-then-is_to_server-clause-all
+returns-then-is_to_server-clause-all g c tells came all its =
+    let now : ServerNode g.row.S.Denot =
+    record c.args.self.now { exporter = c.take-made.new.self; keeper = c.take-made.new.keeper } in
+    all_then came c.take-made.result c.push_made.result now c.push_made.ensures.made
+    (c.take-made.ensures.brought tells came its all.0) all.1

@@ -1,4 +1,8 @@
+use Rattle.std.proofs.Common.{sym, subst}
 use Rattle.hub_laws.specs.Keeping.{lapse_in, message_in}
+use Rattle.server_node.proofs.Staying.{put_all}
+use Rattle.server_node.specs.Standing.{HasCome}
+use Rattle.server_node.specs.declared.server.ServerNode.{ServerNode}
 use Rattle.server_node.proofs.Turns.{given_still, kept_ready, kept_rested, kept_stays, kept_theirs, kept_then}
 use Rattle.server_node.specs.Laws.{stays_on}
 use Rattle.server_node.proofs.server.ServerNode.keep.Goals as goal
@@ -32,3 +36,13 @@ returns-in-Ok-clause-stays g c =
     stays_on g.S.Store.tells g.S.Store.view c.args.self.now c.make_room.new.self c.put.new.self
     c.make_room.ensures.stays
     (kept_stays g.S.Store.tells g.S.Store.view c.make_room.new.self c.put.new.self c.put.ensures.rest)
+
+pub returns-in-Ok-clause-went : goal.returns-in-Ok-clause-went
+returns-in-Ok-clause-went g c tells came all its = λ from h.
+    subst (λ (z : ServerNode g.row.S.Denot). HasCome came from (g.S.Store.view z.keeper.store).state)
+    (sym c.put.ensures.rest) (c.make_room.ensures.went tells came all from h)
+
+pub returns-in-Ok-clause-all : goal.returns-in-Ok-clause-all
+returns-in-Ok-clause-all g c tells came all its =
+    put_all came c.make_room.new.self c.put.new.self c.put.result c.args.given c.requires.back c.put.ensures.rest
+    c.put.ensures.kept its (c.in-Ok.ensures.all tells came all)

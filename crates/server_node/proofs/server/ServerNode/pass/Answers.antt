@@ -1,7 +1,7 @@
 use Rattle.std.proofs.Common.{List, [], ◌∷◌, ◌++◌, ◌+◌, sym, subst}
 use Rattle.run_rules.specs.declared.step.Step.{Step}
 use Rattle.server_node.proofs.Staying.{same_keeper}
-use Rattle.server_node.proofs.Turns.{next_below, on_ok, passed}
+use Rattle.server_node.proofs.Turns.{all_ok, next_below, on_ok, passed}
 use Rattle.server_node.specs.Standing.{IsReady, StandsSo}
 use Rattle.server_node.specs.declared.server.ServerNode.{ServerNode}
 use Rattle.server_node.proofs.server.ServerNode.pass.Goals as goal
@@ -35,3 +35,6 @@ returns-clause-works g c = λ part past so.
 pub returns-clause-stays : goal.returns-clause-stays
 returns-clause-stays g c =
     same_keeper g.S.Store.tells g.S.Store.view c.args.self.now c.args.self.now.exporter c.go.new.self
+
+pub returns-clause-all : goal.returns-clause-all
+returns-clause-all g c tells came all = all_ok c.push.result all

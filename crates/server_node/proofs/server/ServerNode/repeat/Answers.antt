@@ -1,6 +1,6 @@
 use Rattle.std.proofs.Common.{List, []}
 use Rattle.run_rules.specs.declared.step.Step.{Step}
-use Rattle.server_node.proofs.Staying.{same_keeper}
+use Rattle.server_node.proofs.Staying.{all_then, same_keeper}
 use Rattle.server_node.proofs.Turns.{pushed, ready_still, repeated_then}
 use Rattle.server_node.specs.Standing.{StandsSo}
 use Rattle.server_node.specs.declared.server.ServerNode.{ServerNode}
@@ -28,3 +28,9 @@ returns-clause-works g c = λ part past so.
 pub returns-clause-stays : goal.returns-clause-stays
 returns-clause-stays g c =
     same_keeper g.S.Store.tells g.S.Store.view c.args.self.now c.lapse-made.new.self c.args.self.now.lines
+
+pub returns-clause-all : goal.returns-clause-all
+returns-clause-all g c tells came all =
+    let now : ServerNode g.row.S.Denot = record c.args.self.now { exporter = c.lapse-made.new.self } in
+    all_then came c.lapse-made.result c.push_sent.result now c.push_sent.ensures.made
+    (c.lapse-made.ensures.brought came all.0) all.1

@@ -1,6 +1,6 @@
 use Rattle.std.proofs.Common.{List, []}
 use Rattle.run_rules.specs.declared.step.Step.{Step}
-use Rattle.server_node.proofs.Staying.{served_by}
+use Rattle.server_node.proofs.Staying.{all_then, served_by}
 use Rattle.server_node.proofs.Turns.{next_below, pushed, ready_then, restarted_then}
 use Rattle.server_node.specs.Standing.{StandsSo}
 use Rattle.server_node.specs.declared.server.ServerNode.{ServerNode}
@@ -53,7 +53,21 @@ returns-clause-stays g c =
           c.args.self.now.inbox;
     } in
     served_by g.S.Store.tells g.S.Store.view c.restart-made.result c.args.self.now now c.restart-made.ensures.tried
-    c.restart-made.ensures.went
 
 pub returns-clause-failed : goal.returns-clause-failed
 returns-clause-failed g c = λ e. c.restart-made.ensures.tried.blame (c.push_made.ensures.err e)
+
+pub returns-clause-went : goal.returns-clause-went
+returns-clause-went g c tells came all = c.restart-made.ensures.went tells came
+
+pub returns-clause-all : goal.returns-clause-all
+returns-clause-all g c tells came all =
+    let now : ServerNode g.row.S.Denot =
+    record {
+      exporter = c.restart-made.new.self;
+      keeper = c.restart-made.new.keeper;
+      lines = c.go.new.self;
+      inbox = c.args.self.now.inbox;
+    } in
+    all_then came c.restart-made.result c.push_made.result now c.push_made.ensures.made
+    (c.restart-made.ensures.brought came) all.1

@@ -1,7 +1,10 @@
-use Rattle.std.proofs.Common.{◌∙◌, ap, subst, sym}
-use Rattle.server_node.proofs.Turns.{none_given, settled_gathers, stored_then}
+use Rattle.std.proofs.Common.{◌∙◌, List, ap, subst, sym}
+use Rattle.message_types.specs.Soundness.{Each}
+use Rattle.server_exporter.specs.Keepers.{IsDoneFor}
+use Rattle.store_acts.specs.declared.act.Act.{Act}
+use Rattle.server_node.proofs.Turns.{all_ok, none_given, settled_gathers, stored_then}
 use Rattle.server_node.specs.Laws.{fails_later, stays_on, stays_so}
-use Rattle.server_node.specs.Standing.{StandsSo}
+use Rattle.server_node.specs.Standing.{HasAllOf, StandsSo}
 use Rattle.server_node.specs.declared.server.ServerNode.{ServerNode}
 use Rattle.server_node.proofs.server.ServerNode.settle_gathered.Goals as goal
 
@@ -39,3 +42,18 @@ returns-in-Ok-clause-failed g c = λ e.
 pub returns-in-Ok-clause-inbox : goal.returns-in-Ok-clause-inbox
 returns-in-Ok-clause-inbox g c =
     c.settle.ensures.inbox ∙ ap (λ (z : ServerNode g.row.S.Denot). z.inbox) c.store.ensures.rest
+
+pub returns-in-Ok-clause-went : goal.returns-in-Ok-clause-went
+returns-in-Ok-clause-went g c tells came all waits = λ from h.
+    c.settle.ensures.went tells came
+    (subst (λ (z : ServerNode g.row.S.Denot). HasAllOf came z) (sym c.store.ensures.rest) all) from
+    (c.store.ensures.went tells came waits from h)
+
+pub returns-in-Ok-clause-all : goal.returns-in-Ok-clause-all
+returns-in-Ok-clause-all g c tells came all waits =
+    c.settle.ensures.all tells came
+    (subst (λ (z : ServerNode g.row.S.Denot). HasAllOf came z) (sym c.store.ensures.rest) all)
+
+pub returns-in-Ok-clause-done_for : goal.returns-in-Ok-clause-done_for
+returns-in-Ok-clause-done_for g c came waits =
+    all_ok c.settle.result (subst (λ (l : List Act). Each (IsDoneFor came) l) (sym c.in-Ok.ensures.none) tt)

@@ -1,6 +1,6 @@
 use Rattle.std.proofs.Common.{List}
 use Rattle.run_rules.specs.declared.step.Step.{Step}
-use Rattle.server_node.proofs.Staying.{served_by}
+use Rattle.server_node.proofs.Staying.{all_then, served_by}
 use Rattle.server_node.proofs.Turns.{pushed, ready_then, settled_then}
 use Rattle.server_node.specs.Standing.{StandsSo}
 use Rattle.server_node.specs.declared.server.ServerNode.{ServerNode}
@@ -31,7 +31,16 @@ returns-clause-stays g c =
     let now : ServerNode g.row.S.Denot =
     record c.args.self.now { exporter = c.settle-made.new.self; keeper = c.settle-made.new.keeper } in
     served_by g.S.Store.tells g.S.Store.view c.settle-made.result c.args.self.now now c.settle-made.ensures.tried
-    c.settle-made.ensures.went
 
 pub returns-clause-failed : goal.returns-clause-failed
 returns-clause-failed g c = λ e. c.settle-made.ensures.tried.blame (c.push_made.ensures.err e)
+
+pub returns-clause-went : goal.returns-clause-went
+returns-clause-went g c tells came all = c.settle-made.ensures.went tells came all.0
+
+pub returns-clause-all : goal.returns-clause-all
+returns-clause-all g c tells came all =
+    let now : ServerNode g.row.S.Denot =
+    record c.args.self.now { exporter = c.settle-made.new.self; keeper = c.settle-made.new.keeper } in
+    all_then came c.settle-made.result c.push_made.result now c.push_made.ensures.made
+    (c.settle-made.ensures.brought tells came all.0) all.1

@@ -22,7 +22,9 @@ pub returns-clause-stays : goal.returns-clause-stays
 returns-clause-stays g c =
     let now : ServerNode g.row.S.Denot = record c.args.self.now { keeper = c.store_all.new.keeper } in
     served_by g.S.Store.tells g.S.Store.view c.store_all.result c.args.self.now now c.store_all.ensures.tried
-    c.store_all.ensures.went
 
 pub returns-clause-failed : goal.returns-clause-failed
 returns-clause-failed g c = λ e. c.store_all.ensures.tried.blame (c.fault_of.ensures.err e)
+
+pub returns-clause-went : goal.returns-clause-went
+returns-clause-went g c tells came waits = c.store_all.ensures.went tells came waits

@@ -1,9 +1,12 @@
-use Rattle.std.proofs.Common.{◌≡◌, ◌∙◌, ◌++◌, ap, List}
+use Rattle.std.proofs.Common.{◌≡◌, ◌∙◌, ◌++◌, ap, sym, subst, List}
 use Rattle.message_types.specs.declared.message.Message.{Message}
+use Rattle.message_types.specs.Soundness.{Each}
+use Rattle.server_exporter.specs.Keepers.{IsDoneFor}
+use Rattle.store_acts.specs.declared.act.Act.{Act}
 use Rattle.server_node.proofs.Kept.{rest_theirs, some_of}
 use Rattle.server_node.proofs.Turns.{all_ok, gathers_none, none_wait, stored_end, theirs_still}
 use Rattle.server_node.specs.Laws.{fails_later, stays_on, stays_so}
-use Rattle.server_node.specs.Standing.{latest_first}
+use Rattle.server_node.specs.Standing.{HasAllOf, latest_first}
 use Rattle.server_node.specs.declared.server.ServerNode.{ServerNode}
 use Rattle.server_node.proofs.server.ServerNode.take_kept.Goals as goal
 
@@ -16,6 +19,11 @@ loop-self-init g c = record {
   works = (λ part past came lapses so. gathers_none g.S.Store.tells g.S.Store.view part c.args.self.now past
       c.args.steps.now.steps c.args.self.now c.new-waiting.result c.args.steps.now.steps
       (came ++ latest_first c.args.self.now.inbox) lapses c.new-waiting.ensures so);
+  gone = (λ tells came all. (
+    (λ from h. h),
+    all,
+    subst (λ (l : List Act). Each (IsDoneFor came) l) (sym c.new-waiting.ensures) tt,
+  ));
   stays = stays_so g.S.Store.tells g.S.Store.view c.args.self.now;
 }
 
@@ -32,6 +40,12 @@ loop-self-preserved g c = record {
   gives = c.in-Ok.ensures.gives;
   works = (λ part past came lapses so. let now = c.loop-self.invariant.works part past came lapses so in
       c.in-Ok.ensures.works part past came lapses now.0 now.1);
+  gone = (λ tells came all.
+      let so = c.loop-self.invariant.gone tells came all in (
+        (λ from h. c.gather_next.ensures.went tells came so.1 so.2 from (so.0 from h)),
+        c.in-Ok.ensures.all tells came so.1 so.2,
+        c.in-Ok.ensures.done_for came so.1.1 so.2,
+      ));
   stays = stays_on g.S.Store.tells g.S.Store.view c.args.self.now c.loop-self.self c.gather_next.new.self
       c.loop-self.invariant.stays c.gather_next.ensures.stays;
 }
@@ -76,3 +90,18 @@ pub returns-clause-failed : goal.returns-clause-failed
 returns-clause-failed g c = λ e.
     fails_later g.S.Store.tells g.S.Store.view c.args.self.now c.loop-self.self c.store.new.self
     c.loop-self.invariant.stays (c.store.ensures.failed e)
+
+pub returns-in-Err-clause-went : goal.returns-in-Err-clause-went
+returns-in-Err-clause-went g c tells came all = λ from h.
+    let so = c.loop-self.invariant.gone tells came all in
+    c.gather_next.ensures.went tells came so.1 so.2 from (so.0 from h)
+
+pub returns-clause-went : goal.returns-clause-went
+returns-clause-went g c tells came all = λ from h.
+    let so = c.loop-self.invariant.gone tells came all in c.store.ensures.went tells came so.2 from (so.0 from h)
+
+pub returns-clause-all : goal.returns-clause-all
+returns-clause-all g c tells came all =
+    let so = c.loop-self.invariant.gone tells came all in
+    all_ok c.store.result
+    (subst (λ (z : ServerNode g.row.S.Denot). HasAllOf came z) (sym c.store.ensures.rest) so.1)

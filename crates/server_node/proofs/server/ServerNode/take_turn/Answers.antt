@@ -41,3 +41,12 @@ pub returns-in-Ok-clause-failed : goal.returns-in-Ok-clause-failed
 returns-in-Ok-clause-failed g c = λ e.
     fails_later g.S.Store.tells g.S.Store.view c.args.self.now c.take_kept.new.self c.take_rest.new.self
     c.take_kept.ensures.stays (c.take_rest.ensures.failed e)
+
+pub returns-in-Ok-clause-went : goal.returns-in-Ok-clause-went
+returns-in-Ok-clause-went g c tells came all its = λ from h.
+    c.take_rest.ensures.went tells came (c.in-Ok.ensures.all tells came all) its from
+    (c.take_kept.ensures.went tells came all from h)
+
+pub returns-in-Ok-clause-all : goal.returns-in-Ok-clause-all
+returns-in-Ok-clause-all g c tells came all its =
+    c.take_rest.ensures.all tells came (c.in-Ok.ensures.all tells came all) its

@@ -2,6 +2,7 @@ use Rattle.std.proofs.Common.{◌≡◌, ◌∙◌, Err, List, ◌∷◌, ◌++�
 use Rattle.hub_board.specs.declared.given.Turned.TheVariants.{Ended, Idle}
 use Rattle.hub_laws.specs.Keeping.{Round, lapse_in, message_in}
 use Rattle.run_rules.specs.declared.step.Step.{Step}
+use Rattle.server_node.proofs.Broken.{broken_by}
 use Rattle.server_node.proofs.Standing.{begins}
 use Rattle.server_node.proofs.Turns.{given_if, is_done, none_of, not_done, was_given}
 use Rattle.server_node.specs.Standing.{StandsSo, latest_first}
@@ -81,3 +82,8 @@ returns-in-Err-clause-failed g c = record {
   served = c.take_turn.ensures.stays;
   store = λ is. c.take_turn.ensures.failed (c.in-Err.is ∙ ap (λ e. Err e) is);
 }
+
+pub returns-in-Err-clause-broken : goal.returns-in-Err-clause-broken
+returns-in-Err-clause-broken g c = λ part past made st to.
+    broken_by g.S.Store.tells g.S.Store.view part c.args.self.now c.take_turn.new.self past made c.args.given st
+    c.take_turn.ensures.went
