@@ -56,6 +56,7 @@ use Rattle.run_goes_on.proofs.Telling.{After, above_before, after, below, decide
 use Rattle.run_goes_on.proofs.Telling.{here, learns_by, less, mark_before}
 use Rattle.run_goes_on.proofs.Telling.{no_lapse, server_due, server_may, server_sends, tells_none, whole_cut}
 use Rattle.run_goes_on.specs.Rest.{AllIsOver, IsTakenIn, LapsesIn, NoneIsHeld}
+use Rattle.run_rules.specs.Doings.{Here}
 use Rattle.run_goes_on.specs.Waiting.{ClaimsAreAnswered}
 
 -- what is taken is a doing that takes it

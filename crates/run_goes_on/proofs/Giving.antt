@@ -51,6 +51,10 @@ use Rattle.run_goes_on.proofs.Telling.{whole_cut}
 use Rattle.run_goes_on.specs.Rest.{AllIsOver, IsTakenIn, LapsesIn, NoneIsHeld}
 use Rattle.run_tokens.specs.Unmoved.{StaysPut}
 use Rattle.run_rules.specs.Doings.{after_admitting}
+use Rattle.run_tokens.proofs.TokenRun.{works_none}
+use Rattle.run_tokens.proofs.Unmoved.{admitted_put}
+use Rattle.run_tokens.proofs.Words.{never_moved}
+use Rattle.run_rules.specs.Kept.{filesets_kept}
 use Rattle.run_goes_on.specs.Waiting.{GivesAreKnown}
 
 -- # A host that has said Bye makes no give-back any more
@@ -312,7 +316,11 @@ module _ (script : Script) (start : Tree) (firsts : ServerId → ℕ) (real : (v
             moves =
                 let k = (sent.1.gones m.host m.epoch m.moves (number_of g)
                 (λ j. Sent m.host m.epoch m.moves (body j))).0 in
-                sym (ap (λ (y : Stay). y.moves) k)
+                let still =
+                works_none v (filesets_kept start v (steps_of_server v p)) (acts p) t
+                (server_may script start firsts real run meets due over none host live v l p t a.whole at).works.applies in
+                let put = admitted_put t (acts p) still ((all (t ∷ l) p a.whole).at v).served.put in
+                sym (never_moved v sent.0 g.fid.fileset m.moves (sent.3 put) k)
 
     -- and it can't have taken the give-back
     never : ⊥

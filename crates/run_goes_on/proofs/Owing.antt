@@ -61,6 +61,7 @@ use Rattle.run_goes_on.specs.Rest.{AllIsOver, IsStopped, LapsesIn, NoneIsHeld}
 use Rattle.run_tokens.proofs.Ships.{since_ships}
 use Rattle.run_rules.specs.Doings.Doing.{Puts}
 use Rattle.run_rules.specs.Doings.{after_sending}
+use Rattle.run_tokens.proofs.Ships.{since_shipped}
 use Rattle.run_goes_on.specs.Waiting.{NothingIsOwed}
 
 abbrev Reclaims : HostId → List Doing → Doing → Type 0
@@ -731,7 +732,8 @@ module _ (script : Script) (start : Tree) (firsts : ServerId → ℕ) (real : (v
       has = has_first;
       revoked = subst (λ (S : List Doing). HasRevoked S t) (sym (server_doings (firsts v) v k.step k.before k.at))
           (inr (
-            asks_now k.step.sent (after_admitting k.step (acts k.before)) k.sent.0 k.sent.1 k.sent.2 k.sent.3,
+            since_shipped (Asks t) k.step.shipped (after_sending k.step (acts k.before))
+                (asks_now k.step.sent (after_admitting k.step (acts k.before)) k.sent.0 k.sent.1 k.sent.2 k.sent.3),
             λ n. (let z : Reserves k.step.reserved ≡ BeginsEpoch n.0 = n.1 in cc),
           ));
       short = omega arith;
