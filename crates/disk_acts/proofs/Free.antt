@@ -108,3 +108,11 @@ module _ {D : Type 0} (tells : Type 0) (view : D → View) (log : Log D) (idle :
       both : (a : Bool) → (a && a) ≡ a
       both true = refl
       both false = refl
+
+  -- among them are those of the first blocks
+  pub zeros_front : (free n : ℕ) → n ≤ (state_of log).superblock.blocks → free ≡ how_many (is_zero (state_of log) Image) n → free ≤ free_blocks (state_of log) Image
+  zeros_front free n le is =
+      let rest = (state_of log).superblock.blocks - n in
+      let both = many_split (is_zero (state_of log) Image) n rest in
+      let all = zeros_free (n + rest) (omega (arith, le)) in
+      omega (arith, is, both, all)

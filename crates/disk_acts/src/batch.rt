@@ -29,7 +29,7 @@ fn has_tables(state: &StoreState) -> bool
     state.hosts.len() == HOSTS_MAX as usize + 1 && state.taken.len() == SERVERS_MAX as usize
 }
 
-// Does acts, each in one transaction. What each may need is taken off the blocks that were counted as free.
+// Does acts, each in one transaction. What each may need is taken off the free blocks that were counted.
 fn do_all<D: Disk>(
     log: &mut Log<D>,
     store: &mut MapStore,

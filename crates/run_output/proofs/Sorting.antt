@@ -9,11 +9,12 @@ use Rattle.base_types.specs.declared.ids.Node.TheVariants.{Server}
 use Rattle.base_types.specs.declared.ids.ServerId.{ServerId}
 use Rattle.script_output.specs.Reports.{answer_in}
 use Rattle.script_output.specs.declared.report.Answer.{Answer as Told}
-use Rattle.run_rules.specs.Runs.{applied_entries, call_entry, entries_in}
+use Rattle.run_rules.specs.Runs.{applied_entries, call_entry, entries_in, entries_moved}
 use Rattle.run_rules.specs.declared.applied.Answer.{Answer}
 use Rattle.run_rules.specs.declared.applied.Applied.{Applied}
-use Rattle.run_rules.specs.declared.applied.Applied.TheVariants.{Done, Moves, Replied}
+use Rattle.run_rules.specs.declared.applied.Applied.TheVariants.{Done, Replied}
 use Rattle.run_rules.specs.declared.applied.Head.{Head}
+use Rattle.run_rules.specs.declared.applied.Move.{Move}
 use Rattle.run_rules.specs.declared.applied.Move.TheVariants.{Arrives}
 use Rattle.run_rules.specs.declared.applied.Written.{Written}
 
@@ -37,10 +38,10 @@ pub of_done : (host calls : ℕ) (server : ServerId) (applied : Applied) (writte
 of_done host calls server applied written e =
     sym (ap (λ one. flat_map (answer_in host calls) (entries_in server one)) e ∙ append-nil (answer_in host calls (call_entry written.answer)))
 
-pub of_arrives : (host calls : ℕ) (server : ServerId) (applied : Applied) (head : Head) → applied ≡ Moves (Arrives head)
-    → answer_in host calls (call_entry head.written.answer) ≡ flat_map (answer_in host calls) (entries_in server applied)
-of_arrives host calls server applied head e =
-    sym (ap (λ one. flat_map (answer_in host calls) (entries_in server one)) e
+pub of_arrives : (host calls : ℕ) (server : ServerId) (of : Move) (head : Head) → of ≡ Arrives head
+    → answer_in host calls (call_entry head.written.answer) ≡ flat_map (answer_in host calls) (entries_moved server of)
+of_arrives host calls server of head e =
+    sym (ap (λ one. flat_map (answer_in host calls) (entries_moved server one)) e
     ∙ append-nil (answer_in host calls (call_entry head.written.answer)))
 
 -- a server's step tells what it answers, and then what it applies

@@ -3,7 +3,7 @@ ghost use Rattle.std.specs.Prelude.{◌≡◌, ◌++◌, ◌<◌, ℕ, [], IfOk,
 ghost use Rattle.base_types.specs.declared.ids.ServerId.{ServerId as ServerIdOf};
 ghost use Rattle.script_lines.specs.Asks.{call_lines};
 ghost use Rattle.script_output.specs.Reports.{answer_in, answers_of};
-ghost use Rattle.run_rules.specs.Runs.{call_entry, entries_in, entries_of, history_of};
+ghost use Rattle.run_rules.specs.Runs.{call_entry, entries_in, entries_moved, entries_of, history_of};
 
 use base_types::{HOSTS_MAX, Items, NoMemory, Node, Plain, ServerId};
 use run_rules::{Answer, Applied, Move, Step};
@@ -148,7 +148,20 @@ fn sort_one<'a>(sorted: &mut Items<Items<&'a Answer>>, applied: &'a Applied) -> 
     match applied {
         Applied::Replied(answer) => sort_answer(sorted, answer),
         Applied::Done(written) => sort_answer(sorted, &written.answer),
-        Applied::Moves(Move::Arrives(head)) => sort_answer(sorted, &head.written.answer),
+        Applied::Moves(of) => sort_moved(sorted, of),
+        _ => Ok(()),
+    }
+}
+
+#[tactic(auto, unfolding(script_output::specs::Reports::answer_in))]
+fn sort_moved<'a>(sorted: &mut Items<Items<&'a Answer>>, of: &'a Move) -> Result<(), NoMemory>
+    ensures { (server : ServerIdOf) → (host calls : ℕ) → OnOk result
+        (flat_map (answer_in host calls) (map (λ answer. call_entry answer.now) (slice_index_or sorted.new host []))
+        ≡ flat_map (answer_in host calls) (map (λ answer. call_entry answer.now) (slice_index_or sorted.old host []))
+        ++ flat_map (answer_in host calls) (entries_moved server of.now)) }
+{
+    match of {
+        Move::Arrives(head) => sort_answer(sorted, &head.written.answer),
         _ => Ok(()),
     }
 }

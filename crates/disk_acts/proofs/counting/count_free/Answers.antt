@@ -4,7 +4,7 @@ use Rattle.disk_log.specs.Log.{disk_of, state_of}
 use Rattle.disk_log.specs.Puts.{page_of}
 use Rattle.disk_log.specs.State.{State}
 use Rattle.disk_log.proofs.Mounting.{quiet_none}
-use Rattle.disk_acts.proofs.Free.{still_none, zeros_free, zeros_more, zeros_none}
+use Rattle.disk_acts.proofs.Free.{still_none, zeros_free, zeros_front, zeros_more, zeros_none}
 use Rattle.disk_acts.proofs.counting.count_free.Goals as goal
 
 pub loop-index-init : goal.loop-index-init
@@ -54,11 +54,22 @@ loop-index-preserved g c =
       counted = (let a = inv.counted in let b = reads.blamed.counted in omega (arith, a, b));
     }
 
-pub returns-clause-free : goal.returns-clause-free
-returns-clause-free g c = λ told.
+pub returns-then-is_enough-clause-free : goal.returns-then-is_enough-clause-free
+returns-then-is_enough-clause-free g c = λ told.
+    zeros_front g.D.Disk.tells g.D.Disk.view c.args.log.now c.requires.idle c.requires.durable told c.loop-index.free (min (256 * c.loop-index.index) (state_of c.args.log.now).superblock.blocks) (omega arith) (c.loop-index.invariant.zeros told)
+
+pub returns-then-is_enough-clause-all : goal.returns-then-is_enough-clause-all
+returns-then-is_enough-clause-all g c = λ told few. (let enough = c.if-is_enough.true in absurd (omega (arith, few, enough)))
+
+pub returns-clause-all : goal.returns-clause-all
+returns-clause-all g c = λ told few.
     let state = state_of c.args.log.now in
     let pages = c.div_ceil-index-end.ensures in
     let past = c.loop-index-test.false in
     let many = c.blocks-2.ensures in
     let all : min (256 * c.loop-index.index) state.superblock.blocks ≡ state.superblock.blocks = omega (arith, pages, past, many) in
     c.loop-index.invariant.zeros told ∙ zeros_free g.D.Disk.tells g.D.Disk.view c.args.log.now c.requires.idle c.requires.durable told _ all
+
+pub returns-clause-free : goal.returns-clause-free
+returns-clause-free g c = λ told.
+    zeros_front g.D.Disk.tells g.D.Disk.view c.args.log.now c.requires.idle c.requires.durable told c.loop-index.free (min (256 * c.loop-index.index) (state_of c.args.log.now).superblock.blocks) (omega arith) (c.loop-index.invariant.zeros told)
