@@ -32,6 +32,8 @@ use Rattle.hub_laws.specs.Keeping.{Keeps, Round, round_of, rounds_of}
 use Rattle.hub_laws.specs.Laws.{CauseSent, GivesSound}
 use Rattle.hub_laws.proofs.Members.{in_append, in_back, in_front, map_in}
 use Rattle.hub_laws.proofs.Planned.{StepFits, each_now, each_on, known, once_after}
+use Rattle.run_tokens.proofs.Ships.{once_shipped}
+use Rattle.run_rules.specs.Doings.{after_sending}
 use Rattle.hub_laws.proofs.Rounds.{is_to}
 
 module _ (script : Script) where
@@ -138,15 +140,15 @@ module _ (script : Script) where
   once_cause P (Line line) past h = h
   once_cause P Lapse past h = h
   once_cause P Evict past h = h
-  once_cause P (Freight freight) past h = h
+  once_cause P (Freight freight) past h = inr h
   once_cause P End past h = h
 
   once_step : (P : List Doing → Doing → Type 0) (s : Step) (past : List Doing) → Once P past → Once P
       (after_step s past)
   once_step P s past h =
-      inr (once_after P (sending s.sent) (after_admitting s past)
+      inr (once_shipped P s.shipped (after_sending s past) (once_after P (sending s.sent) (after_admitting s past)
       (once_after P (admitting s.admitted) (after_deciding s past)
-      (once_after P (deciding s.applied) (after_cause s.cause past) (once_cause P s.cause past h))))
+      (once_after P (deciding s.applied) (after_cause s.cause past) (once_cause P s.cause past h)))))
 
   -- its server sent it
   sent_to : (firsts : ServerId → ℕ) (m : Message) (past : List Step) → Sender m past → m.direction ≡ ToHost
@@ -156,8 +158,9 @@ module _ (script : Script) where
       (λ (u : In m s.sent × (IsFrom s.node m × IsSound script.roster m)).
       subst (λ b. SentTo (cond b (after_step s before) before) m.host m.epoch m.moves m.body)
       (sym (from_server s.node m u.1.0 e))
-      (inr (once_in_after (Sent m.host m.epoch m.moves m.body) (sending s.sent) (after_admitting s before)
-      (map_in (λ (x : Message). Sent x.host x.epoch x.moves x.body) m s.sent u.0))))
+      (inr (once_shipped (λ earlier a. a ≡ Sent m.host m.epoch m.moves m.body) s.shipped (after_sending s before)
+      (once_in_after (Sent m.host m.epoch m.moves m.body) (sending s.sent) (after_admitting s before)
+      (map_in (λ (x : Message). Sent x.host x.epoch x.moves x.body) m s.sent u.0)))))
       (λ (k : Sender m past). later (is_node s.node (Server m.server)) (sent_to firsts m past k e)) o
     where
       before : List Doing

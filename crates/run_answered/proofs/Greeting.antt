@@ -25,6 +25,7 @@ use Rattle.run_answered.proofs.Endings.{GivesName, gives_name}
 use Rattle.run_answered.specs.Answered.{EndedRunsLeaveNoneOpen}
 use Rattle.run_rules.specs.Doings.{Doing, HeardNow, IsApplied, SentNow, SentTo, after_admitting, after_cause}
 use Rattle.run_rules.specs.Doings.{after_deciding, after_step, deciding, doings_of, epoch, sending}
+use Rattle.run_rules.specs.Doings.Doing.{Gets}
 use Rattle.run_rules.specs.Doings.Doing.{BeginsEpoch, Flushes, Reserves, Sent, Took}
 use Rattle.run_rules.specs.Messages.{HasBye}
 use Rattle.run_rules.specs.Messages.{ComesIn, HasGreeted, HasSaid, HasStopped, IsWelcome, epoch_at, home, stay_of}
@@ -41,6 +42,8 @@ use Rattle.run_tokens.proofs.Words.{acts_after, if_host, if_server, own_after}
 use Rattle.run_rules.specs.declared.step.Cause.{Cause}
 use Rattle.run_rules.specs.declared.step.Cause.TheVariants.{End, Evict, Flushed, Freight, Lapse, Line, Message as Came}
 use Rattle.run_rules.specs.declared.step.Cause.TheVariants.{Restart}
+use Rattle.run_tokens.proofs.Ships.{once_ships}
+use Rattle.run_rules.specs.Doings.{after_sending}
 use Rattle.run_rules.specs.declared.step.Step.{Step}
 
 -- a server took this
@@ -83,18 +86,20 @@ module _ (h : HostId) (e n : ℕ) (b : Body) where
   cause_back (Line line) S o = o
   cause_back Lapse S o = o
   cause_back Evict S o = o
-  cause_back (Freight freight) S o = o
+  cause_back (Freight freight) S (inl q) = absurd (let z : Gets freight.server freight.moves freight.body ≡ Sent h e n b = q in cc)
+  cause_back (Freight freight) S (inr o) = o
   cause_back End S o = o
 
   sent_split : (s : Step) (S : List Doing) → SentTo (after_step s S) h e n b → SentTo S h e n b ⊎ SentNow s h b
   sent_split s S (inl q) = absurd (let z : Reserves s.reserved ≡ Sent h e n b = q in cc)
-  sent_split s S (inr o) = elim (split_sending s.sent (after_admitting s S) o) [
-    | inr k ↦ inr k
-    | inl old ↦ inl (cause_back s.cause S
-        (back_deciding (λ before a. a ≡ Sent h e n b) (λ before w q. cc) (λ before w q. cc) s.applied
-        (after_cause s.cause S)
-        (back_admitting (λ before a. a ≡ Sent h e n b) (λ before g ts q. cc) s.admitted (after_deciding s S) old)))
-  ]
+  sent_split s S (inr o) = elim (split_sending s.sent (after_admitting s S)
+      (once_ships (λ before a. a ≡ Sent h e n b) (λ T to k c q. cc) s.shipped (after_sending s S) o)) [
+        | inr k ↦ inr k
+        | inl old ↦ inl (cause_back s.cause S
+            (back_deciding (λ before a. a ≡ Sent h e n b) (λ before w q. cc) (λ before w q. cc) (λ before w q. cc) s.applied
+            (after_cause s.cause S)
+            (back_admitting (λ before a. a ≡ Sent h e n b) (λ before g ts q. cc) s.admitted (after_deciding s S) old)))
+      ]
 
 -- what a step hears it takes
 heard_now : (s : Step) (S : List Doing) (h : HostId) (b : Body) → HeardNow s h b → TookEver (after_cause s.cause S) h b

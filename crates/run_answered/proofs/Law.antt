@@ -39,6 +39,7 @@ use Rattle.run_tokens.proofs.Words.{acts_after, if_server, own_after}
 use Rattle.run_rules.specs.declared.applied.Answer.{Answer}
 use Rattle.run_rules.specs.declared.applied.Written.{Written}
 use Rattle.run_rules.specs.declared.step.Asked.{Asked}
+use Rattle.run_rules.specs.Doings.Doing.{Puts}
 use Rattle.run_rules.specs.declared.step.Step.{Step}
 
 module _ (script : Script) (start : Tree) (firsts : ServerId → ℕ) (real : (v : ServerId) → 0 < firsts v)
@@ -107,10 +108,11 @@ module _ (script : Script) (start : Tree) (firsts : ServerId → ℕ) (real : (v
 
         back : ((before : List Doing) (g : HostId) (e n : ℕ) (b : Body) → P v before (Sent g e n b) → ⊥)
             → ((before : List Doing) (g : HostId) (ts : List Token) → P v before (Admits g ts) → ⊥)
-            → ((before : List Doing) (ts : List Token) → P v before (Reserves ts) → ⊥) → (u : ServerId)
+            → ((before : List Doing) (ts : List Token) → P v before (Reserves ts) → ⊥)
+            → ((before : List Doing) (to : ServerId) (n : ℕ) (b : Body) → P v before (Puts to n b) → ⊥) → (u : ServerId)
             → Once (P u) (acts_after u (Server v) s (doings_of (firsts u) u past))
             → Once (P u) (doings_of (firsts u) u past) ⊎ ((u ≡ v) × Once (P v) (after_deciding s S))
-        back sent admits reserves u o =
+        back sent admits reserves puts u o =
             if_server_or (λ X. Once (P u) X
             → Once (P u) (doings_of (firsts u) u past) ⊎ ((u ≡ v) × Once (P v) (after_deciding s S))) (v.0 == u.0)
             refl o
@@ -122,7 +124,7 @@ module _ (script : Script) (start : Tree) (firsts : ServerId → ℕ) (real : (v
                 let q : v ≡ u = ap (λ (n : ℕ). record { 0 = n }) (eqb-true v.0 u.0 e) in
                 inr (
                   sym q,
-                  back_written (P v) sent admits reserves s S
+                  back_written (P v) sent admits reserves puts s S
                       (subst (λ (y : ServerId). Once (P y) (after_step s (doings_of (firsts y) y past))) (sym q) p),
                 )
             if_server_or Q false e p = inl p
@@ -138,11 +140,13 @@ module _ (script : Script) (start : Tree) (firsts : ServerId → ℕ) (real : (v
           (λ u w. Wrote (acts_after u (Server v) s (doings_of (firsts u) u past)) w) _
           (λ u m. IsApplied u (acts_after u (Server v) s (doings_of (firsts u) u past)) h m)
           (λ u w i. on (λ y. PW w) u i)
-          (λ u w hh i. back (λ y. PW w) (λ before g e n b q. cc) (λ before g ts q. cc) (λ before ts q. cc) u i)
+          (λ u w hh i. back (λ y. PW w) (λ before g e n b q. cc) (λ before g ts q. cc) (λ before ts q. cc)
+          (λ before to n b q. cc) u i)
           (λ u n i. on (PG n) u i)
           (λ u n i. back (PG n) (λ before g e k b q. absurd (sent_none before g e k b n q))
           (λ before g ts q. absurd (admits_none before g ts n q))
-          (λ before ts q. absurd (reserves_none before ts n q)) u i)
+          (λ before ts q. absurd (reserves_none before ts n q))
+          (λ before to k b q. absurd (puts_none before to k b n q)) u i)
           (E ++ entered h (flat_map (entries_in v) s.applied))
           (applied_state script start firsts real past run.0 h v s met E state))
         where
@@ -156,6 +160,10 @@ module _ (script : Script) (start : Tree) (firsts : ServerId → ℕ) (real : (v
 
           reserves_none : (before : List Doing) (ts : List Token) (n : AppliedGive) → PG n v before (Reserves ts) → ⊥
           reserves_none before ts n (give, (moves, here, (q, live)), f, le) = cc
+
+          puts_none : (before : List Doing) (to : ServerId) (k : ℕ) (b : Body) (n : AppliedGive)
+              → PG n v before (Puts to k b) → ⊥
+          puts_none before to k b n (give, (moves, here, (q, live)), f, le) = cc
 
     step_state : (n : Node) → s.node ≡ n → StepMeets script start firsts n past s → After n
     step_state (Host k) e met = of_host k e met

@@ -9,6 +9,7 @@ use Rattle.run_history.proofs.State.{firm_now, whole}
 use Rattle.run_history.proofs.Waiting.{still_changing, said_at}
 use Rattle.std.proofs.Common.{Bool, List, None, Option, Some, ap, append-nil, append_assoc, arith, false, if◌then◌else◌}
 use Rattle.std.proofs.Common.{inl, inr, refl, subst, suc, sym, true, ℕ, ◌++◌, ◌<◌, ◌≤◌, ◌∙◌, ◌∷◌, ◌≡◌, ◌⊎◌}
+use Rattle.std.specs.List.{list_any}
 use Rattle.std.specs.Option.{option_map_or}
 use Rattle.std.specs.Prelude.{[], flat_map}
 use Rattle.base_types.specs.declared.ids.FilesetId.{FilesetId}
@@ -40,6 +41,7 @@ use Rattle.run_history.proofs.Causes.CauseIs.{AppliesNone, Downs, Gives}
 use Rattle.run_answered.specs.Entries.{entered, entry_as}
 use Rattle.run_rules.specs.Doings.{Doing, Here, IsApplied, SentTo, TakenNow, TookNow, WasWritten, after_cause}
 use Rattle.run_rules.specs.Doings.{after_deciding, after_step, deciding, doings_of, epoch}
+use Rattle.run_rules.specs.Doings.Doing.{Gets}
 use Rattle.run_rules.specs.Doings.Doing.{BeginsEpoch, Flushes, MakesWant, Sent, Took, WritesDown}
 use Rattle.run_rules.specs.HostAsks.{HasChanged}
 use Rattle.run_rules.specs.Kept.{filesets_after, filesets_kept, filesets_through}
@@ -66,6 +68,8 @@ use Rattle.run_rules.specs.declared.step.Asked.{Asked}
 use Rattle.run_rules.specs.declared.step.Cause.{Cause}
 use Rattle.run_rules.specs.declared.step.Cause.TheVariants.{End, Evict, Flushed, Freight, Lapse, Line, Message as Came}
 use Rattle.run_rules.specs.declared.step.Cause.TheVariants.{Restart}
+use Rattle.run_tokens.proofs.TokenRun.{works_none}
+use Rattle.run_tokens.specs.Unmoved.{MovesNone, is_move}
 use Rattle.run_rules.specs.declared.step.Step.{Step}
 
 same_write : (v w : Written) → WritesDown v ≡ WritesDown w → v ≡ w
@@ -162,7 +166,7 @@ module _ (P : List Doing → Doing → Type 0) where
   cause_on (Line line) S o = o
   cause_on Lapse S o = o
   cause_on Evict S o = o
-  cause_on (Freight freight) S o = o
+  cause_on (Freight freight) S o = inr o
   cause_on End S o = o
 
   pub step_on : (s : Step) (S : List Doing) → Once P S → Once P (after_step s S)
@@ -179,7 +183,8 @@ wrote_cause w Flushed S (inr o) = o
 wrote_cause w (Line line) S o = o
 wrote_cause w Lapse S o = o
 wrote_cause w Evict S o = o
-wrote_cause w (Freight freight) S o = o
+wrote_cause w (Freight freight) S (inl q) = absurd (let z : Gets freight.server freight.moves freight.body ≡ WritesDown w = q in cc)
+wrote_cause w (Freight freight) S (inr o) = o
 wrote_cause w End S o = o
 
 module _ (script : Script) (start : Tree) (firsts : ServerId → ℕ) (real : (v : ServerId) → 0 < firsts v)
@@ -249,7 +254,7 @@ module _ (script : Script) (start : Tree) (firsts : ServerId → ℕ) (real : (v
       go (Came m) q (inl (give, (moves, here, (is, live)), files, le)) =
           elim (below_or g.number give.number le) [
             | inl lt ↦ inl ((((whole script start firsts real past run).at v).link h).known (number_of g)
-                (made_at v S g.fid.fileset moves here)
+                (made_at v S g.fid.fileset moves ((whole script start firsts real past run).at v).served.put here)
                 (alone.said_first give g v (epoch S) moves said made (sym files) lt))
             | inr same ↦ (
                 let one : give ≡ g =
@@ -288,7 +293,8 @@ module _ (script : Script) (start : Tree) (firsts : ServerId → ℕ) (real : (v
       go (Line line) q o = inl o
       go Lapse q o = inl o
       go Evict q o = inl o
-      go (Freight freight) q o = inl o
+      go (Freight freight) q (inl k) = absurd (let z : Gets freight.server freight.moves freight.body ≡ _ = k.1.2.0 in cc)
+      go (Freight freight) q (inr o) = inl o
       go End q o = inl o
 
   -- what a first give-back of the host applies
@@ -348,7 +354,8 @@ module _ (script : Script) (start : Tree) (firsts : ServerId → ℕ) (real : (v
     made = (((whole script start firsts real past run).alone h).said_made g v taken.epoch taken.moves said).0
 
     at_home : home g.fid.fileset ≡ v
-    at_home = made_at v S g.fid.fileset first.0.0 first.0.2
+    at_home =
+        made_at v S g.fid.fileset first.0.0 ((whole script start firsts real past run).at v).served.put first.0.2
 
     unknown : IsKnown A g → ⊥
     unknown known =
@@ -374,7 +381,8 @@ module _ (script : Script) (start : Tree) (firsts : ServerId → ℕ) (real : (v
         unknown in
         let there : home g.fid.fileset ≡ u = (
         ap (λ (y : Give). home y.fid.fileset) (sym one)
-        ∙ applied_at u (doings_of (firsts u) u past) h (number_of other) at
+        ∙ applied_at u (doings_of (firsts u) u past) h (number_of other)
+        ((whole script start firsts real past run).at u).served.put at
         ) in
         first.1 (subst (λ (y : ServerId × Give). IsApplied y.0 (doings_of (firsts y.0) y.0 past) h (number_of y.1))
         (λ i. ((sym there ∙ at_home) i, one i)) at)
@@ -611,11 +619,17 @@ module _ (script : Script) (start : Tree) (firsts : ServerId → ℕ) (real : (v
   decides (IsDown g ∷ xs) K D E may tokens mid state = elim may.0 [ ]
   decides (IsMoved move ∷ xs) K D E may tokens mid state = elim may.0 [ ]
 
-  same_deciding : (xs : List Applied) → deciding (decisions xs) ≡ deciding xs
-  same_deciding [] = refl
-  same_deciding (IsWanted x ∷ xs) = refl
-  same_deciding (IsDone x ∷ xs) = refl
-  same_deciding (_ ∷ xs) = same_deciding xs
+  same_deciding : (xs : List Applied) → list_any is_move xs ≡ false → deciding (decisions xs) ≡ deciding xs
+  same_deciding [] none = refl
+  same_deciding (IsWanted x ∷ xs) none = refl
+  same_deciding (IsDone x ∷ xs) none = refl
+  same_deciding (IsMoved move ∷ xs) none = absurd (cc)
+  same_deciding (Replied x ∷ xs) none = same_deciding xs none
+  same_deciding (Stored g f ss n ∷ xs) none = same_deciding xs none
+  same_deciding (IsDown g ∷ xs) none = same_deciding xs none
+
+  none_moved : MovesNone s
+  none_moved = works_none v kept_then S s met.0.works.applies
 
   -- all that it applies
   pub applied_state : (E : List Asked) → State A h (WroteBy firsts past) (AppliedBy firsts past h) E
@@ -626,9 +640,9 @@ module _ (script : Script) (start : Tree) (firsts : ServerId → ℕ) (real : (v
       ∙ sym (append_assoc E (mine v h (by_cause s.applied)) (mine v h (decisions s.applied)))))
       (subst (λ (D : List Doing). State A h (W D) (G D)
       ((E ++ mine v h (by_cause s.applied)) ++ mine v h (decisions s.applied)))
-      (sym (same_decisions s.applied (after_cause s.cause S)))
+      (sym (same_decisions s.applied (after_cause s.cause S) none_moved))
       (decides (decisions s.applied) (filesets_through s.cause (by_cause s.applied) kept_then) (after_cause s.cause S)
       (E ++ mine v h (by_cause s.applied)) met.0.works.decides
       (subst (λ (ds : List Doing). EachInTurn (ServerTokens v) ds (after_cause s.cause S))
-      (sym (same_deciding s.applied))
+      (sym (same_deciding s.applied none_moved))
       met.0.tokens.writes) caused (cause_state E state)))

@@ -15,8 +15,10 @@ use Rattle.message_types.specs.declared.telling.DoneIs.TheVariants.{Reply as Has
 use Rattle.script_lines.specs.declared.script.Script.{Script}
 use Rattle.run_contents.proofs.Grants.{same_decisions}
 use Rattle.run_history.proofs.Waiting.{AllFresh}
+use Rattle.run_rules.specs.Doings.{after_shipping}
 use Rattle.run_rules.specs.Doings.{Doing, SentTo, WasWritten, admitting, after_admitting, after_cause, after_deciding}
 use Rattle.run_rules.specs.Doings.{after_sending, after_step, deciding, epoch, sending}
+use Rattle.run_rules.specs.Doings.Doing.{Gets, Puts}
 use Rattle.run_rules.specs.Doings.Doing.{Admits, BeginsEpoch, Flushes, MakesWant, Reserves, Sent, Took, WritesDown}
 use Rattle.run_rules.specs.Kept.{filesets_after, filesets_kept, filesets_through}
 use Rattle.run_rules.specs.Past.{EachInTurn, Once, appended}
@@ -37,6 +39,8 @@ use Rattle.run_rules.specs.declared.applied.Written.{Written}
 use Rattle.run_rules.specs.declared.step.Cause.{Cause}
 use Rattle.run_rules.specs.declared.step.Cause.TheVariants.{End, Evict, Flushed, Freight, Lapse, Line, Message as Came}
 use Rattle.run_rules.specs.declared.step.Cause.TheVariants.{Restart}
+use Rattle.run_tokens.proofs.TokenRun.{works_none}
+use Rattle.run_tokens.proofs.Ships.{ships_keep}
 use Rattle.run_rules.specs.declared.step.Step.{Step}
 
 -- what waits wasn't written down
@@ -144,7 +148,7 @@ causes Flushed S old = on S Flushes (λ w e. cc) (λ h e n b q. cc) (λ w e. cc)
 causes (Line line) S old = old
 causes Lapse S old = old
 causes Evict S old = old
-causes (Freight freight) S old = old
+causes (Freight freight) S old = on S (Gets freight.server freight.moves freight.body) (λ w e. cc) (λ h e n b q. cc) (λ w e. cc) refl old
 causes End S old = old
 
 same_want : (v w : Wanted) → MakesWant v ≡ MakesWant w → v ≡ w
@@ -371,13 +375,15 @@ sents v tree s (m ∷ ms) S may tokens old =
 pub step_told : (script : Script) (start : Tree) (v : ServerId) (steps : List Step) (S : List Doing) (s : Step)
     → ServerMay script start v steps S s → Told S → Told (after_step s S)
 step_told script start v steps S s m old =
-    on (after_sending s S) (Reserves s.reserved) (λ w e. cc) (λ h e n b q. cc) (λ w e. cc) refl
-    (sents v (filesets_through s.cause s.applied (filesets_kept start v steps)) s s.sent (after_admitting s S)
+    on (after_shipping s S) (Reserves s.reserved) (λ w e. cc) (λ h e n b q. cc) (λ w e. cc) refl
+    (ships_keep Told (λ T to n b was. on T (Puts to n b) (λ w e. cc) (λ h e n b q. cc) (λ w e. cc) refl was) s.shipped
+    (after_sending s S) (sents v (filesets_through s.cause s.applied (filesets_kept start v steps)) s s.sent (after_admitting s S)
     m.works.sends
     m.tokens.sends (admits s.admitted (after_deciding s S)
-    (subst Told (sym (same_decisions s.applied (after_cause s.cause S)))
+    (subst Told (sym (same_decisions s.applied (after_cause s.cause S)
+    (works_none v (filesets_kept start v steps) S s m.works.applies)))
     (decides v S s (decisions s.applied) (filesets_through s.cause (by_cause s.applied) (filesets_kept start v steps))
-    (after_cause s.cause S) m.works.decides (causes s.cause S old)))))
+    (after_cause s.cause S) m.works.decides (causes s.cause S old))))))
 
 pub told_first : (first : ℕ) → Told (BeginsEpoch first ∷ [])
 told_first first = record {

@@ -16,7 +16,9 @@ use Rattle.run_contents.proofs.Calls.{grows, open_last}
 use Rattle.run_answered.proofs.Told.{Told, WrittenIn, step_told, told_first}
 use Rattle.run_rules.specs.Doings.{Doing, TookNow, admitting, after_admitting, after_cause, after_deciding, after_step}
 use Rattle.run_rules.specs.Doings.{deciding, doings_of, epoch, sending}
-use Rattle.run_rules.specs.Doings.Doing.{Admits, BeginsEpoch, Flushes, MakesWant, Reserves, Sent, Took, WritesDown}
+use Rattle.run_rules.specs.Doings.Doing.{Gets}
+use Rattle.run_rules.specs.Doings.Doing.{Admits, BeginsEpoch, Flushes, MakesWant, Moves, Reserves, Sent, Took}
+use Rattle.run_rules.specs.Doings.Doing.{WritesDown}
 use Rattle.run_rules.specs.Messages.{Said}
 use Rattle.run_rules.specs.Past.{EachInTurn, Once, appended}
 use Rattle.run_rules.specs.Runs.{CameToServer, StepMeets, StepsMeet}
@@ -33,6 +35,9 @@ use Rattle.run_rules.specs.declared.applied.Written.{Written}
 use Rattle.run_rules.specs.declared.step.Cause.{Cause}
 use Rattle.run_rules.specs.declared.step.Cause.TheVariants.{End, Evict, Flushed, Freight, Lapse, Line, Message as Came}
 use Rattle.run_rules.specs.declared.step.Cause.TheVariants.{Restart}
+use Rattle.run_rules.specs.Doings.Doing.{Puts}
+use Rattle.run_tokens.proofs.Ships.{once_ships, ships_keep}
+use Rattle.run_rules.specs.Doings.{after_sending}
 use Rattle.run_rules.specs.declared.step.Step.{Step}
 
 -- it was written down; this was taken
@@ -63,6 +68,9 @@ epoch_on (WritesDown w) S none = refl
 epoch_on (Admits h ts) S none = refl
 epoch_on (Sent h e n b) S none = refl
 epoch_on (Reserves ts) S none = refl
+epoch_on (Moves move) S none = refl
+epoch_on (Gets from n b) S none = refl
+epoch_on (Puts to n b) S none = refl
 
 pub took_now : (S : List Doing) (h : HostId) (n : ℕ) (b : Body) → TookNow S h n b → TookIt S h (epoch S) n b
 took_now [] h n b t = elim t [ ]
@@ -117,7 +125,7 @@ asked_causes Flushed S old = on Flushes S (λ w e. cc) old
 asked_causes (Line line) S old = old
 asked_causes Lapse S old = old
 asked_causes Evict S old = old
-asked_causes (Freight freight) S old = old
+asked_causes (Freight freight) S old = on (Gets freight.server freight.moves freight.body) S (λ w e. cc) old
 asked_causes End S old = old
 
 asked_decides : (v : ServerId) (xs : List Applied) (S : List Doing) → EachInTurn (ServerTokens v) (deciding xs) S
@@ -131,7 +139,8 @@ asked_decides v (IsDone x ∷ xs) S may old =
 asked_decides v (Replied x ∷ xs) S may old = asked_decides v xs S may old
 asked_decides v (Stored h f ss n ∷ xs) S may old = asked_decides v xs S may old
 asked_decides v (IsDown h ∷ xs) S may old = asked_decides v xs S may old
-asked_decides v (IsMoved move ∷ xs) S may old = asked_decides v xs S may old
+asked_decides v (IsMoved move ∷ xs) S may old =
+    asked_decides v xs (Moves move ∷ S) may.1 (on (Moves move) S (λ w e. cc) old)
 
 asked_admits : (cs : List Admission) (S : List Doing) → AllAsked S → AllAsked (appended (admitting cs) S)
 asked_admits [] S old = old
@@ -148,8 +157,9 @@ step_asked : (v : ServerId) (s : Step) (S : List Doing)
     → EachInTurn (ServerTokens v) (deciding s.applied) (after_cause s.cause S) → AllAsked S → AllAsked (after_step s S)
 step_asked v s S may old =
     on (Reserves s.reserved) _ (λ w e. cc)
+    (ships_keep AllAsked (λ T to n b was. on (Puts to n b) T (λ w e. cc) was) s.shipped (after_sending s S)
     (asked_sends s.sent (after_admitting s S) (asked_admits s.admitted (after_deciding s S)
-    (asked_decides v s.applied (after_cause s.cause S) may (asked_causes s.cause S old))))
+    (asked_decides v s.applied (after_cause s.cause S) may (asked_causes s.cause S old)))))
 
 pub server_of : (a b : ServerId) → a.0 ≡ b.0 → a ≡ b
 server_of a b e = ap (λ (n : ℕ). record { 0 = n }) e
@@ -225,7 +235,8 @@ module _ (script : Script) (start : Tree) (firsts : ServerId → ℕ) (real : (v
         go (Line line) q o = old o
         go Lapse q o = old o
         go Evict q o = old o
-        go (Freight freight) q o = old o
+        go (Freight freight) q (inl t) = absurd (let z : Gets freight.server freight.moves freight.body ≡ Took h e n b = t in cc)
+        go (Freight freight) q (inr o) = old o
         go End q o = old o
 
     step_heard : (v : ServerId) (past : List Step) (s : Step) (S : List Doing) → CameToServer v past s
@@ -234,10 +245,11 @@ module _ (script : Script) (start : Tree) (firsts : ServerId → ℕ) (real : (v
     step_heard v past s S came old (inl t) = absurd (let z : Reserves s.reserved ≡ Took h e n b = t in cc)
     step_heard v past s S came old (inr o) =
         cause_heard v past s S came old
-        (back_deciding (λ before a. a ≡ Took h e n b) (λ before w t. cc) (λ before w t. cc) s.applied
+        (back_deciding (λ before a. a ≡ Took h e n b) (λ before w t. cc) (λ before w t. cc) (λ before w t. cc) s.applied
         (after_cause s.cause S)
         (back_admitting (λ before a. a ≡ Took h e n b) (λ before g ts t. cc) s.admitted (after_deciding s S)
-        (back_sending (λ before a. a ≡ Took h e n b) (λ before g d m c t. cc) s.sent (after_admitting s S) o)))
+        (back_sending (λ before a. a ≡ Took h e n b) (λ before g d m c t. cc) s.sent (after_admitting s S)
+        (once_ships (λ before a. a ≡ Took h e n b) (λ T to k c q. cc) s.shipped (after_sending s S) o))))
 
     heard_step : (v : ServerId) (k : Node) (past : List Step) (s : Step) → StepMeets script start firsts k past s
         → (TookIt (doings_of (firsts v) v past) h e n b → Said (steps_of_host h past) v e n b)

@@ -11,8 +11,12 @@ use Rattle.message_types.specs.declared.message.Body.TheVariants.{Hello, Fetch, 
 use Rattle.message_types.specs.declared.message.Body.TheVariants.{Kept, GiveBack, Gone, Reclaim, Reclaimed, Restarted}
 use Rattle.message_types.specs.declared.message.Body.TheVariants.{Down, Bye, NotHere, Ship, Shipped}
 use Rattle.run_parts.proofs.Cells.{cases_host}
-use Rattle.run_rules.specs.Doings.{Doing, HasGoneAway, HasGoneDown, Hears, Here, IsLive, Listed, TakesBye, epoch}
-use Rattle.run_rules.specs.Doings.Doing.{Admits, BeginsEpoch, Flushes, MakesWant, Reserves, Sent, Took, WritesDown}
+use Rattle.run_rules.specs.Doings.{Doing, HasGoneAway, HasGoneDown, Hears, Here, IsLive, Listed, Slot, TakesBye, epoch}
+use Rattle.run_rules.specs.Doings.{slot_of}
+use Rattle.run_rules.specs.Doings.Slot.{Absent, Arriving, Gone, Leaving, Writable}
+use Rattle.run_rules.specs.Doings.Doing.{Admits, BeginsEpoch, Flushes, MakesWant, Moves, Reserves, Sent, Took}
+use Rattle.run_rules.specs.Doings.Doing.{WritesDown}
+use Rattle.run_rules.specs.Doings.Doing.{Gets, Puts}
 use Rattle.run_rules.specs.Messages.{home}
 
 -- it is one of these four, or none
@@ -145,6 +149,9 @@ module _ (target : Body) (same : (b : Body) → (b ≡ target) ⊎ (b ≡ target
   hears (BeginsEpoch e) h = inr (λ q. let r : BeginsEpoch e ≡ Took h q.0 q.1 target = q.2 in cc)
   hears Flushes h = inr (λ q. let r : Flushes ≡ Took h q.0 q.1 target = q.2 in cc)
   hears (MakesWant w) h = inr (λ q. let r : MakesWant w ≡ Took h q.0 q.1 target = q.2 in cc)
+  hears (Moves move) h = inr (λ q. let r : Moves move ≡ Took h q.0 q.1 target = q.2 in cc)
+  hears (Gets from n b) h = inr (λ q. let r : Gets from n b ≡ Took h q.0 q.1 target = q.2 in cc)
+  hears (Puts to n b) h = inr (λ q. let r : Puts to n b ≡ Took h q.0 q.1 target = q.2 in cc)
   hears (WritesDown w) h = inr (λ q. let r : WritesDown w ≡ Took h q.0 q.1 target = q.2 in cc)
   hears (Admits k ts) h = inr (λ q. let r : Admits k ts ≡ Took h q.0 q.1 target = q.2 in cc)
   hears (Sent k e n b) h = inr (λ q. let r : Sent k e n b ≡ Took h q.0 q.1 target = q.2 in cc)
@@ -210,11 +217,15 @@ live S h = elim (listed S h) [
   ]
 ]
 
-pub here : (v : ServerId) (S : List Doing) (fs : FilesetId) (n : ℕ) → Here v S fs n ⊎ (Here v S fs n → ⊥)
-here v S fs n = elim (cases_nat (home fs).0 v.0) [
-  | inr apart ↦ inr (λ q. apart (ap (λ p. p.server.0) q))
-  | inl one ↦ elim (cases_nat 0 n) [
-    | inr moved ↦ inr (λ q. moved (ap (λ p. p.moves) q))
-    | inl first ↦ inl (λ i. record { server = record { 0 = one i }; moves = first i })
-  ]
+is_writable : (slot : Slot) (n : ℕ) → (slot ≡ Writable n) ⊎ (slot ≡ Writable n → ⊥)
+is_writable (Writable m) n = elim (cases_nat m n) [
+  | inl same ↦ inl (ap Writable same)
+  | inr apart ↦ inr (λ q. apart (let same : m ≡ n = cc in same))
 ]
+is_writable Absent n = inr (λ q. cc)
+is_writable (Leaving m to ship) n = inr (λ q. cc)
+is_writable (Arriving m from ship parts) n = inr (λ q. cc)
+is_writable (Gone m to) n = inr (λ q. cc)
+
+pub here : (v : ServerId) (S : List Doing) (fs : FilesetId) (n : ℕ) → Here v S fs n ⊎ (Here v S fs n → ⊥)
+here v S fs n = is_writable (slot_of v S fs) n

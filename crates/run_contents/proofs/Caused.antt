@@ -54,6 +54,7 @@ use Rattle.run_tokens.proofs.Words.{made_at}
 use Rattle.run_rules.specs.declared.applied.Applied.{Applied}
 use Rattle.run_rules.specs.declared.step.Cause.{Cause}
 use Rattle.run_rules.specs.declared.step.Cause.TheVariants.{Message as Came}
+use Rattle.run_tokens.proofs.Unmoved.{put_on}
 use Rattle.run_rules.specs.declared.step.Step.{Step}
 
 -- a byte lies below the size that is left
@@ -451,7 +452,7 @@ module _ (c : Contents) (v : ServerId) (D : List Deed) (tree : Tree) (s : Step) 
       let body : m.body ≡ GiveBack g = cc in
       let first : FirstGiven v (acts_in D) s h g =
       ((applies.0.0, ((m, cause, host, now, moves, body), applies.0.2.1), applies.0.1), applies.1) in
-      let home : site g.fid ≡ v = made_at v (acts_in D) g.fid.fileset applies.0.0 applies.0.1 in
+      let home : site g.fid ≡ v = made_at v (acts_in D) g.fid.fileset applies.0.0 at.put applies.0.1 in
       let takes = takes_of tree g.fid writable.0 (sym (at.shows g.fid Traits home) ∙ writable.1) writable.2 writable.3 in
       let gives_it : gives g p ≡ Some y = sym (same.gives g p) ∙ has in
       let some = has_some s.cause tree h g (pieces_are g body) p y gives_it in
@@ -515,6 +516,7 @@ module _ (c : Contents) (v : ServerId) (D : List Deed) (tree : Tree) (s : Step) 
 
   pub at_first : IsKept after_it → At c v (first_deed ∷ D) after_it
   at_first keeps = record {
+    put = put_on (Took m.host m.epoch m.moves m.body) (acts_in D) (λ p. let q = p.1 in cc) at.put;
     shows = λ f p home.
         ap (λ (y : Seen p). kept_after_part p (does_first s.cause tree (by_cause s.applied) f p) y) (at.shows f p home)
         ∙ first_view s.cause tree at.keeps (by_cause s.applied) (shape v (acts_in D) tree s k) f p;

@@ -48,6 +48,7 @@ use Rattle.run_rules.specs.ServerDecides.DecidedSo.{IsRefusedByTable, MeetsPinne
 use Rattle.run_rules.specs.Wants.{CanGrant, IsInWay, asker, asker_of, exporter, is_use, moves_fileset}
 use Rattle.run_rules.specs.declared.applied.Applied.TheVariants.{Done as IsDone}
 use Rattle.run_rules.specs.declared.applied.Written.{Written}
+use Rattle.run_tokens.proofs.Unmoved.{put_on}
 use Rattle.run_rules.specs.declared.step.Cause.{Cause}
 
 module _ (c : Contents) (v : ServerId) (tree : Tree) (cause : Cause) (D : List Deed) (x : Written) (at : At c v D tree)
@@ -237,6 +238,7 @@ module _ (c : Contents) (v : ServerId) (tree : Tree) (cause : Cause) (D : List D
     where
       at_b : (b : Bool) → is_refusal x.answer.reply ≡ b → At c v (deed ∷ D) (if b then tree else left)
       at_b true e = record {
+        put = put_on (WritesDown x) (acts_in D) (λ p. let q = p.1 in cc) at.put;
         shows = λ f p home.
             ap (λ (d : Does (Seen p)). kept_after_part p d (kept c D f p)) (none e f p) ∙ at.shows f p home;
         keeps = at.keeps;
@@ -253,6 +255,7 @@ module _ (c : Contents) (v : ServerId) (tree : Tree) (cause : Cause) (D : List D
       at_b false e =
           let s = sound e in
           record {
+            put = put_on (WritesDown x) (acts_in D) (λ p. let q = p.1 in cc) at.put;
             shows = λ f p home.
                 let is : deed.does f p ≡ changes wanted tree left f p =
                 ap (λ (w : ServerId). if (site f).0 == w.0 then writes cause tree x f p else Nothing) (sym home)

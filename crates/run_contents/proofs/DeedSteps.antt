@@ -3,7 +3,7 @@ use Rattle.std.proofs.Common.{Bool, List, Some, [], ap, arith, eqb-true, false, 
 use Rattle.std.proofs.Common.{refl, subst, suc, sym, true, ℕ, ◌&&◌, ◌++◌, ◌==◌, ◌∙◌, ◌∷◌, ◌≡◌, ◌≤◌}
 use Rattle.std.proofs.lemmas.Bool.{and_parts, eqb-false, false≢true}
 use Rattle.std.proofs.lemmas.Grind.{common_steps}
-use Rattle.std.specs.List.{find, list_all}
+use Rattle.std.specs.List.{find, list_all, list_any}
 use Rattle.std.specs.Prelude.{filter, if◌then◌else◌}
 use Rattle.base_types.specs.declared.ids.Fid.{Fid}
 use Rattle.base_types.specs.declared.ids.FilesetId.{FilesetId}
@@ -28,7 +28,9 @@ use Rattle.tree_laws.specs.Parts.{cell_in}
 use Rattle.tree_laws.specs.Parts.Part.{Traits}
 use Rattle.run_rules.specs.Doings.{Doing, Granted, admitting, after_admitting, after_cause, after_deciding, after_step}
 use Rattle.run_rules.specs.Doings.{deciding, doings_of, epoch, sending}
-use Rattle.run_rules.specs.Doings.Doing.{Admits, BeginsEpoch, Flushes, MakesWant, Reserves, Sent, Took, WritesDown}
+use Rattle.run_rules.specs.Doings.Doing.{Gets}
+use Rattle.run_rules.specs.Doings.Doing.{Admits, BeginsEpoch, Flushes, MakesWant, Moves, Reserves, Sent, Took}
+use Rattle.run_rules.specs.Doings.Doing.{WritesDown}
 use Rattle.run_rules.specs.Kept.{filesets_after, filesets_kept, filesets_through}
 use Rattle.run_rules.specs.Messages.{Said, home}
 use Rattle.run_rules.specs.Past.{EachInTurn, In, appended}
@@ -69,6 +71,11 @@ use Rattle.run_rules.specs.declared.applied.Wanted.{Wanted}
 use Rattle.run_rules.specs.declared.step.Cause.{Cause}
 use Rattle.run_rules.specs.declared.step.Cause.TheVariants.{End, Evict, Flushed, Freight, Lapse, Line, Message as Came}
 use Rattle.run_rules.specs.declared.step.Cause.TheVariants.{Restart}
+use Rattle.run_tokens.specs.Unmoved.{MovesNone, MovesOne, is_move}
+use Rattle.run_tokens.proofs.Unmoved.{put_on}
+use Rattle.run_tokens.proofs.TokenRun.{none_moves}
+use Rattle.run_rules.specs.Doings.Doing.{Puts}
+use Rattle.run_rules.specs.Doings.{shipped_by_body, shipping}
 use Rattle.run_rules.specs.declared.step.Step.{Step}
 
 -- the deeds of the rest of a step meet the rules, and what is kept after them is what the kept filesets show
@@ -88,8 +95,8 @@ module _ (c : Contents) (v : ServerId) where
   abbrev idle : Doing → Deed
   idle a = record { act = a; does = does_nothing }
 
-  still : (D : List Deed) (tree : Tree) (a : Doing) → At c v D tree → At c v (idle a ∷ D) tree
-  still D tree a at = record { shows = at.shows; keeps = at.keeps }
+  still : (D : List Deed) (tree : Tree) (a : Doing) → (MovesOne a → ⊥) → At c v D tree → At c v (idle a ∷ D) tree
+  still D tree a none at = record { put = put_on a (acts_in D) none at.put; shows = at.shows; keeps = at.keeps }
 
 -- what waits was taken, through what makes no want
 taken_on : (S : List Doing) (a : Doing) → ((w : Wanted) → a ≡ MakesWant w → ⊥) → AllTaken S → AllTaken (a ∷ S)
@@ -107,9 +114,22 @@ module _ (c : Contents) (same : IsOfJournal c) (v : ServerId) (s : Step) where
       one_more c v D (idle c v a) (with_doing does_nothing (sending ms ++ more)) tree
       (quiet c v same.root D tree a at (fine_sent c v tree s same.tells D a at taken may.0 tokens.0)
       (λ h e n b q. let r : Sent m.host m.epoch m.moves m.body ≡ Took h e n b = q in cc))
-      (sents tree ms more (idle c v a ∷ D) (still c v D tree a at)
+      (sents tree ms more (idle c v a ∷ D) (still c v D tree a (λ p. let q = p.1 in cc) at)
       (taken_on (acts_in D) a (λ w q. let r : Sent m.host m.epoch m.moves m.body ≡ MakesWant w = q in cc) taken)
       may.1 tokens.1 rest)
+
+  ships : (tree : Tree) (ms : List Message) (more : List Doing) (D : List Deed) → At c v D tree
+      → ((D' : List Deed) → At c v D' tree → Ends_so c v D' (with_doing does_nothing more) tree)
+      → Ends_so c v D (with_doing does_nothing (shipping ms ++ more)) tree
+  ships tree [] more D at rest = rest D at
+  ships tree (m ∷ ms) more D at rest =
+      let to = shipped_by_body m.body m.server in
+      let a = Puts to m.moves m.body in
+      one_more c v D (idle c v a) (with_doing does_nothing (shipping ms ++ more)) tree
+      (quiet c v same.root D tree a at
+      (unsent c v D a (λ h e n b q. let r : Puts to m.moves m.body ≡ Sent h e n b = q in cc))
+      (λ h e n b q. let r : Puts to m.moves m.body ≡ Took h e n b = q in cc))
+      (ships tree ms more (idle c v a ∷ D) (still c v D tree a (λ p. let q = p.1 in cc) at) rest)
 
   admits : (tree : Tree) (cs : List Admission) (more : List Doing) (D : List Deed) → At c v D tree → AllTaken (acts_in D)
       → ((D' : List Deed) → acts_in D' ≡ appended (admitting cs) (acts_in D) → At c v D' tree → AllTaken (acts_in D')
@@ -122,7 +142,7 @@ module _ (c : Contents) (same : IsOfJournal c) (v : ServerId) (s : Step) where
       (quiet c v same.root D tree a at
       (unsent c v D a (λ h e n b q. let r : Admits x.host x.tokens ≡ Sent h e n b = q in cc))
       (λ h e n b q. let r : Admits x.host x.tokens ≡ Took h e n b = q in cc))
-      (admits tree cs more (idle c v a ∷ D) (still c v D tree a at)
+      (admits tree cs more (idle c v a ∷ D) (still c v D tree a (λ p. let q = p.1 in cc) at)
       (taken_on (acts_in D) a (λ w q. let r : Admits x.host x.tokens ≡ MakesWant w = q in cc) taken) rest)
 
 module _ (script : Script) (start : Tree) (firsts : ServerId → ℕ) (past : List Step)
@@ -159,7 +179,7 @@ module _ (script : Script) (start : Tree) (firsts : ServerId → ℕ) (past : Li
       (quiet c v same.root D tree (MakesWant x) at
       (unsent c v D (MakesWant x) (λ h e n b q. let r : MakesWant x ≡ Sent h e n b = q in cc))
       (λ h e n b q. let r : MakesWant x ≡ Took h e n b = q in cc))
-      (decides xs S0 tree last more (idle c v (MakesWant x) ∷ D) may.1 (still c v D tree (MakesWant x) at) q.0 q.1
+      (decides xs S0 tree last more (idle c v (MakesWant x) ∷ D) may.1 (still c v D tree (MakesWant x) (λ p. let q = p.1 in cc) at) q.0 q.1
       (on_said (acts_in D) (MakesWant x) (λ h e n b p. cc) said)
       (plain script v (acts_in D) (MakesWant x) (λ h e n b q. cc) (λ h ts q. cc) good) rest)
   decides (IsDone x ∷ xs) S0 tree last more D may at taken heard said good rest =
@@ -194,13 +214,14 @@ module _ (script : Script) (start : Tree) (firsts : ServerId → ℕ) (past : Li
       said : AllSaid (after_cause s.cause S)
       good : AllGood script v (after_cause s.cause S)
       kept : IsKept caused
+      none : MovesNone s
 
     module _ (D : List Deed) (at : At c v D tree) (g : Given (acts_in D)) where
       abbrev S : List Doing
       S = acts_in D
 
       abbrev tail : List Doing
-      tail = admitting s.admitted ++ (sending s.sent ++ (Reserves s.reserved ∷ []))
+      tail = admitting s.admitted ++ (sending s.sent ++ (shipping s.shipped ++ (Reserves s.reserved ∷ [])))
 
       abbrev rest : List Deed
       rest = decided v s.cause caused (decisions s.applied) ++ with_doing does_nothing tail
@@ -209,19 +230,20 @@ module _ (script : Script) (start : Tree) (firsts : ServerId → ℕ) (past : Li
       sent_last : (D' : List Deed) → acts_in D' ≡ after_deciding s S → At c v D' done → AllTaken (acts_in D')
           → Ends_so c v D' (with_doing does_nothing tail) done
       sent_last D' e at' taken =
-          admits c same v s done s.admitted (sending s.sent ++ (Reserves s.reserved ∷ [])) D' at' taken
+          admits c same v s done s.admitted (sending s.sent ++ (shipping s.shipped ++ (Reserves s.reserved ∷ []))) D' at'
+          taken
           (λ D'' f at'' taken''.
           let all : acts_in D'' ≡ after_admitting s S = f ∙ ap (appended (admitting s.admitted)) e in
-          sents c same v s done s.sent (Reserves s.reserved ∷ []) D'' at'' taken''
+          sents c same v s done s.sent (shipping s.shipped ++ (Reserves s.reserved ∷ [])) D'' at'' taken''
           (subst (EachInTurn (MaySend v done s) (sending s.sent)) (sym all) g.works.sends)
           (subst (EachInTurn (ServerTokens v) (sending s.sent)) (sym all) g.tokens.sends)
-          (λ E at.
+          (λ E' at'''. ships c same v s done s.shipped (Reserves s.reserved ∷ []) E' at''' (λ E at.
           let a = Reserves s.reserved in
           one_more c v E (idle c v a) [] done
           (quiet c v same.root E done a at
           (unsent c v E a (λ h e n b q. let r : Reserves s.reserved ≡ Sent h e n b = q in cc))
           (λ h e n b q. let r : Reserves s.reserved ≡ Took h e n b = q in cc))
-          (no_more c v (idle c v a ∷ E) done (still c v E done a at))))
+          (no_more c v (idle c v a ∷ E) done (still c v E done a (λ p. let q = p.1 in cc) at)))))
 
       -- what is decided
       from_cause : (D' : List Deed) → acts_in D' ≡ after_cause s.cause S → At c v D' caused → Ends_so c v D' rest done
@@ -232,7 +254,7 @@ module _ (script : Script) (start : Tree) (firsts : ServerId → ℕ) (past : Li
           (subst (AllGood script v) (sym e) g.good)
           (λ D'' f at'' taken.
           sent_last D''
-          (f ∙ (ap (appended (deciding (decisions s.applied))) e ∙ sym (same_decisions s.applied (after_cause s.cause S))))
+          (f ∙ (ap (appended (deciding (decisions s.applied))) e ∙ sym (same_decisions s.applied (after_cause s.cause S) g.none)))
           (subst (At c v D'') (sym (split s.cause s.applied tree)) at'') taken)
 
       -- where no message comes the cause applies nothing
@@ -240,14 +262,14 @@ module _ (script : Script) (start : Tree) (firsts : ServerId → ℕ) (past : Li
       firstly xs a = record { act = a; does = does_first s.cause tree xs }
 
       without : (a : Doing) → by_cause s.applied ≡ [] → ((h : HostId) (e n : ℕ) (b : Body) → a ≡ Sent h e n b → ⊥)
-          → ((h : HostId) (e n : ℕ) (b : Body) → a ≡ Took h e n b → ⊥) → a ∷ S ≡ after_cause s.cause S
-          → Ends_so c v D (firstly (by_cause s.applied) a ∷ rest) done
-      without a none no_send no_take e =
+          → ((h : HostId) (e n : ℕ) (b : Body) → a ≡ Took h e n b → ⊥) → (MovesOne a → ⊥)
+          → a ∷ S ≡ after_cause s.cause S → Ends_so c v D (firstly (by_cause s.applied) a ∷ rest) done
+      without a none no_send no_take moves_none e =
           subst (λ xs. Ends_so c v D (firstly xs a ∷ rest) done) (sym none)
           (one_more c v D (firstly [] a) rest done
           (quiet c v same.root D tree a at (unsent c v D a no_send) no_take)
           (from_cause (firstly [] a ∷ D) e
-          (subst (λ xs. At c v (firstly [] a ∷ D) (filesets_through s.cause xs tree)) (sym none) (still c v D tree a at))))
+          (subst (λ xs. At c v (firstly [] a ∷ D) (filesets_through s.cause xs tree)) (sym none) (still c v D tree a moves_none at))))
 
       bare : by_cause s.applied ≡ [] → S ≡ after_cause s.cause S → Ends_so c v D rest done
       bare none e =
@@ -264,11 +286,11 @@ module _ (script : Script) (start : Tree) (firsts : ServerId → ℕ) (past : Li
           without (BeginsEpoch (suc (epoch S))) (no_message v S tree s g.works.applies (λ m q.
           let r : Restart line ≡ Came m = sym e ∙ q in cc))
           (λ h d n b q. let r : BeginsEpoch (suc (epoch S)) ≡ Sent h d n b = q in cc)
-          (λ h d n b q. let r : BeginsEpoch (suc (epoch S)) ≡ Took h d n b = q in cc) (ap (λ x. after_cause x S) (sym e))
+          (λ h d n b q. let r : BeginsEpoch (suc (epoch S)) ≡ Took h d n b = q in cc) (λ p. let q = p.1 in cc) (ap (λ x. after_cause x S) (sym e))
       causes Flushed e =
           without Flushes (no_message v S tree s g.works.applies (λ m q. let r : Flushed ≡ Came m = sym e ∙ q in cc))
           (λ h d n b q. let r : Flushes ≡ Sent h d n b = q in cc)
-          (λ h d n b q. let r : Flushes ≡ Took h d n b = q in cc) (ap (λ x. after_cause x S) (sym e))
+          (λ h d n b q. let r : Flushes ≡ Took h d n b = q in cc) (λ p. let q = p.1 in cc) (ap (λ x. after_cause x S) (sym e))
       causes (Line line) e =
           bare (no_message v S tree s g.works.applies (λ m q. let r : Line line ≡ Came m = sym e ∙ q in cc))
           (ap (λ x. after_cause x S) (sym e))
@@ -279,8 +301,9 @@ module _ (script : Script) (start : Tree) (firsts : ServerId → ℕ) (past : Li
           bare (no_message v S tree s g.works.applies (λ m q. let r : Evict ≡ Came m = sym e ∙ q in cc))
           (ap (λ x. after_cause x S) (sym e))
       causes (Freight freight) e =
-          bare (no_message v S tree s g.works.applies (λ m q. let r : Freight freight ≡ Came m = sym e ∙ q in cc))
-          (ap (λ x. after_cause x S) (sym e))
+          without (Gets freight.server freight.moves freight.body) (no_message v S tree s g.works.applies (λ m q. let r : (Freight freight) ≡ Came m = sym e ∙ q in cc))
+          (λ h d n b q. let r : Gets freight.server freight.moves freight.body ≡ Sent h d n b = q in cc)
+          (λ h d n b q. let r : Gets freight.server freight.moves freight.body ≡ Took h d n b = q in cc) (λ p. let q = p.1 in cc) (ap (λ x. after_cause x S) (sym e))
       causes End e =
           bare (no_message v S tree s g.works.applies (λ m q. let r : End ≡ Came m = sym e ∙ q in cc))
           (ap (λ x. after_cause x S) (sym e))
@@ -306,16 +329,16 @@ in_decided v cause (IsDone x ∷ xs) tree =
 in_decided v cause (Replied x ∷ xs) tree = in_decided v cause xs tree
 in_decided v cause (Stored h f ss n ∷ xs) tree = in_decided v cause xs tree
 in_decided v cause (IsDown h ∷ xs) tree = in_decided v cause xs tree
-in_decided v cause (IsMoved move ∷ xs) tree = in_decided v cause xs tree
+in_decided v cause (IsMoved move ∷ xs) tree = ap (λ zs. Moves move ∷ zs) (in_decided v cause xs tree)
 
-only_decisions : (xs : List Applied) → deciding (decisions xs) ≡ deciding xs
-only_decisions [] = refl
-only_decisions (IsWanted x ∷ xs) = refl
-only_decisions (IsDone x ∷ xs) = refl
-only_decisions (Replied x ∷ xs) = only_decisions xs
-only_decisions (Stored h f ss n ∷ xs) = only_decisions xs
-only_decisions (IsDown h ∷ xs) = only_decisions xs
-only_decisions (IsMoved move ∷ xs) = only_decisions xs
+only_decisions : (xs : List Applied) → list_any is_move xs ≡ false → deciding (decisions xs) ≡ deciding xs
+only_decisions [] none = refl
+only_decisions (IsWanted x ∷ xs) none = refl
+only_decisions (IsDone x ∷ xs) none = refl
+only_decisions (Replied x ∷ xs) none = only_decisions xs none
+only_decisions (Stored h f ss n ∷ xs) none = only_decisions xs none
+only_decisions (IsDown h ∷ xs) none = only_decisions xs none
+only_decisions (IsMoved move ∷ xs) none = absurd (cc)
 
 cause_first : (x : Cause) (S more : List Doing) → doings_cause x S [] ++ more ≡ doings_cause x S more
 cause_first (Came m) S more = refl
@@ -327,9 +350,9 @@ cause_first Evict S more = refl
 cause_first (Freight freight) S more = refl
 cause_first End S more = refl
 
-acts_of : (v : ServerId) (tree : Tree) (S : List Doing) (s : Step) → acts_in (deeds_of v tree S s) ≡ doings s S
-acts_of v tree S s =
-    let tail = admitting s.admitted ++ (sending s.sent ++ (Reserves s.reserved ∷ [])) in
+acts_of : (v : ServerId) (tree : Tree) (S : List Doing) (s : Step) → MovesNone s → acts_in (deeds_of v tree S s) ≡ doings s S
+acts_of v tree S s none =
+    let tail = admitting s.admitted ++ (sending s.sent ++ (shipping s.shipped ++ (Reserves s.reserved ∷ []))) in
     let caused = filesets_through s.cause (by_cause s.applied) tree in
     let first = with_doing (does_first s.cause tree (by_cause s.applied)) (doings_cause s.cause S []) in
     let middle = decided v s.cause caused (decisions s.applied) in
@@ -339,7 +362,7 @@ acts_of v tree S s =
     ∙ (ap (λ zs. doings_cause s.cause S [] ++ zs)
     (in_both middle (with_doing does_nothing tail)
     ∙ (ap (λ zs. zs ++ acts_in (with_doing does_nothing tail))
-    (in_decided v s.cause (decisions s.applied) caused ∙ only_decisions s.applied)
+    (in_decided v s.cause (decisions s.applied) caused ∙ only_decisions s.applied none)
     ∙ ap (λ zs. deciding s.applied ++ zs) (in_doing does_nothing tail)))
     ∙ cause_first s.cause S (deciding s.applied ++ tail)))
 
@@ -374,6 +397,7 @@ module _ (script : Script) (start : Tree) (firsts : ServerId → ℕ) (c : Conte
         good = causes_good script v s.cause S (all_good script start firsts past run v);
         kept = cause_kept script start firsts past run v s m s.applied (filesets_kept start v (steps_of_server v past))
             (sizes script start firsts past run v s m) keeps;
+        none = none_moves script start firsts (Server v) past s m;
       }
 
   -- a step of a server
@@ -397,7 +421,8 @@ module _ (script : Script) (start : Tree) (firsts : ServerId → ℕ) (c : Conte
         (given past run v s m k.at.keeps)))
 
     acts_are : acts_in (c.deeds past s) ≡ doings s (acts_in D)
-    acts_are = ap acts_in same_deeds ∙ acts_of v tree (acts_in D) s
+    acts_are =
+        ap acts_in same_deeds ∙ acts_of v tree (acts_in D) s (none_moves script start firsts (Server v) past s m)
 
     next_stands : Stands v (appended (c.deeds past s) D) (after_step s (doings_of (firsts v) v past)) (s ∷ steps_of_server v past)
     next_stands = record {
@@ -502,6 +527,7 @@ module _ (script : Script) (journal : Journal) (run : IsRun script journal) (c :
   starts v = record {
     doings_are = refl;
     at = record {
+      put = λ o. elim o [ inl p ↦ (let q = p.1 in cc) | inr n ↦ elim n [ ] ];
       shows = λ f p home_is. of_run.start_is f p
           ∙ sym (ap (λ o. (cell_in o f p).kept) (found_there f.fileset v home_is run.start.filesets run.valid.at_home));
       keeps = starts_kept run.start v

@@ -1,5 +1,6 @@
 -- What a server's Grants bring.
-use Rattle.std.proofs.Common.{◌≡◌, ℕ, suc, List, [], ◌∷◌, inl, inr, sym, ◌∙◌, subst, refl}
+use Rattle.std.proofs.Common.{◌≡◌, ℕ, suc, List, [], ◌∷◌, false, inl, inr, sym, ◌∙◌, subst, refl}
+use Rattle.std.specs.List.{list_any}
 use Rattle.base_types.specs.declared.ids.HostId.{HostId}
 use Rattle.base_types.specs.declared.ids.Node.{Node}
 use Rattle.base_types.specs.declared.ids.Node.TheVariants.{Host, Server}
@@ -13,8 +14,10 @@ use Rattle.message_types.specs.declared.telling.Grant.{Grant as GrantOf}
 use Rattle.script_lines.specs.declared.script.Script.{Script}
 use Rattle.token_types.specs.Conflicts.{need_of}
 use Rattle.token_types.specs.declared.token.Token.{Token}
+use Rattle.run_rules.specs.Doings.{after_shipping}
 use Rattle.run_rules.specs.Doings.{Doing, IsNewEpoch, TakenNow, TookNow, admitting, after_admitting, after_cause}
 use Rattle.run_rules.specs.Doings.{after_deciding, after_sending, after_step, deciding, doings_of, epoch, sending}
+use Rattle.run_rules.specs.Doings.Doing.{Gets, Puts}
 use Rattle.run_rules.specs.Doings.Doing.{Admits, BeginsEpoch, Flushes, MakesWant, Reserves, Sent, Took, WritesDown}
 use Rattle.run_rules.specs.Kept.{filesets_after, filesets_kept, filesets_through}
 use Rattle.run_rules.specs.Past.{EachInTurn, In, appended}
@@ -37,6 +40,9 @@ use Rattle.run_rules.specs.declared.applied.Written.{Written}
 use Rattle.run_rules.specs.declared.step.Cause.{Cause}
 use Rattle.run_rules.specs.declared.step.Cause.TheVariants.{End, Evict, Flushed, Freight, Lapse, Line, Message as Came}
 use Rattle.run_rules.specs.declared.step.Cause.TheVariants.{Restart}
+use Rattle.run_tokens.specs.Unmoved.{is_move}
+use Rattle.run_tokens.proofs.TokenRun.{works_none}
+use Rattle.run_tokens.proofs.Ships.{ships_keep}
 use Rattle.run_rules.specs.declared.step.Step.{Step}
 
 -- a request that waits was taken in this epoch
@@ -74,7 +80,7 @@ causes Flushed S old = on S Flushes (λ w e. absurd (cc)) old
 causes (Line line) S old = old
 causes Lapse S old = old
 causes Evict S old = old
-causes (Freight freight) S old = old
+causes (Freight freight) S old = on S (Gets freight.server freight.moves freight.body) (λ w e. absurd (cc)) old
 causes End S old = old
 
 -- what is taken in a step is so once its cause is
@@ -88,14 +94,15 @@ taken_took S s h n b ((m, cause, host, now, moves, body), live) =
     (inl ((λ i. Took (host i) (now i) (moves i) (body i)), live))
 
 -- the decisions alone make wants
-pub same_decisions : (xs : List Applied) (S : List Doing) → appended (deciding xs) S ≡ appended (deciding (decisions xs)) S
-same_decisions [] S = refl
-same_decisions (IsWanted x ∷ xs) S = refl
-same_decisions (IsDone x ∷ xs) S = refl
-same_decisions (Replied x ∷ xs) S = same_decisions xs S
-same_decisions (Stored h f ss n ∷ xs) S = same_decisions xs S
-same_decisions (IsDown h ∷ xs) S = same_decisions xs S
-same_decisions (IsMoved move ∷ xs) S = same_decisions xs S
+pub same_decisions : (xs : List Applied) (S : List Doing) → list_any is_move xs ≡ false
+    → appended (deciding xs) S ≡ appended (deciding (decisions xs)) S
+same_decisions [] S none = refl
+same_decisions (IsWanted x ∷ xs) S none = refl
+same_decisions (IsDone x ∷ xs) S none = refl
+same_decisions (Replied x ∷ xs) S none = same_decisions xs S none
+same_decisions (Stored h f ss n ∷ xs) S none = same_decisions xs S none
+same_decisions (IsDown h ∷ xs) S none = same_decisions xs S none
+same_decisions (IsMoved move ∷ xs) S none = absurd (cc)
 
 same_want : (v w : Wanted) → MakesWant v ≡ MakesWant w → v ≡ w
 same_want v w e = cc
@@ -150,7 +157,8 @@ module _ (script : Script) (start : Tree) (v : ServerId) (steps : List Step) (S 
     (m : ServerMay script start v steps S s) (old : AllTaken S) where
   written : AllTaken (after_deciding s S)
   written =
-      subst AllTaken (sym (same_decisions s.applied (after_cause s.cause S)))
+      subst AllTaken (sym (same_decisions s.applied (after_cause s.cause S)
+      (works_none v (filesets_kept start v steps) S s m.works.applies)))
       (decides v S s (decisions s.applied)
       (filesets_through s.cause (by_cause s.applied) (filesets_kept start v steps)) (after_cause s.cause S) m.works.decides
       (causes s.cause S old) (taken_took S s))
@@ -160,7 +168,9 @@ module _ (script : Script) (start : Tree) (v : ServerId) (steps : List Step) (S 
 
   done : AllTaken (after_step s S)
   done =
-      on (after_sending s S) (Reserves s.reserved) (λ w e. absurd (cc)) (sents s.sent (after_admitting s S) admitted)
+      on (after_shipping s S) (Reserves s.reserved) (λ w e. absurd (cc))
+      (ships_keep AllTaken (λ T to n b was. on T (Puts to n b) (λ w e. absurd (cc)) was) s.shipped (after_sending s S)
+      (sents s.sent (after_admitting s S) admitted))
 
   -- a Grant brings what a Fetch that was taken asks for
   pub granted : (tree : Tree) (S : List Doing) → AllTaken S → (h : HostId) (n : ℕ) (g : GrantOf) → GrantsSo v tree S h n g

@@ -52,12 +52,14 @@ use Rattle.run_contents.specs.Gives.{IsKept}
 use Rattle.run_tokens.proofs.Words.{made_at}
 use Rattle.run_rules.specs.declared.applied.Request.{Request}
 use Rattle.run_rules.specs.declared.applied.Wanted.{Wanted}
+use Rattle.run_tokens.specs.Unmoved.{StaysPut}
 use Rattle.run_rules.specs.declared.step.Step.{Step}
 
 -- what two doings of the rest of a step, one after the other, are
 module _ (c : Contents) (v : ServerId) where
   -- what is kept is what the kept filesets show
   pub record At (D : List Deed) (tree : Tree) : Type 0 where
+    pub put : StaysPut (acts_in D)
     pub shows : (f : Fid) (p : Part) → site f ≡ v → kept c D f p ≡ kept_view tree f p
     pub keeps : IsKept tree
 
@@ -163,7 +165,7 @@ module _ (c : Contents) (v : ServerId) (tree : Tree) (s : Step) (tells : (g : Gr
       tells = λ h e n p w t is i cov. (let g = may.grant_for h e n w is in
           tells w p ∙ (g.tells t p i cov
           ∙ sym (at.shows w.bring.fid p
-          (made_at v (acts_in D) w.bring.fid.fileset n (tokens.grants h e n w is).0.home))));
+          (made_at v (acts_in D) w.bring.fid.fileset n at.put (tokens.grants h e n w is).0.home))));
       needs = λ h e n w is. asked_for v tree (acts_in D) taken h n w (may.grant_for h e n w is);
       blind = λ h e n p w t is i cov. one_sent v tree s (acts_in D) a may tokens h e n p w t is i cov;
       there = there';
@@ -175,7 +177,7 @@ module _ (c : Contents) (v : ServerId) (tree : Tree) (s : Step) (tells : (g : Gr
         brought : (h : HostId) (e n : ℕ) (w : Bring) (t : Token) → MayBring v (acts_in D) h n w → In t w.tokens
             → (kept_view tree t.fid Traits ≡ None → ⊥) → IsThere (kept c D t.fid Traits)
         brought h e n w t m i never =
-            at_home t.fid (ap site (m.file t i) ∙ made_at v (acts_in D) w.fid.fileset n m.home) never
+            at_home t.fid (ap site (m.file t i) ∙ made_at v (acts_in D) w.fid.fileset n at.put m.home) never
 
         of_row : (w : Wanted) (x : ChangeOf) (t : Token) → IsWellFormed tree → w.needs ≡ row_needs tree w.host x
             → In (need_of t) w.needs → kept_view tree t.fid Traits ≡ None → ⊥

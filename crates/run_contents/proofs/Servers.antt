@@ -16,9 +16,12 @@ use Rattle.script_lines.specs.declared.script.Script.{Script}
 use Rattle.token_types.specs.Conflicts.{need_of}
 use Rattle.token_types.specs.declared.token.Token.{Token}
 use Rattle.tree_laws.specs.Parts.{Part}
+use Rattle.run_rules.specs.Doings.{after_shipping}
 use Rattle.run_rules.specs.Doings.{Doing, SentTo, TookNow, admitting, after_admitting, after_cause, after_deciding}
 use Rattle.run_rules.specs.Doings.{after_sending, after_step, deciding, doings_of, epoch, sending}
-use Rattle.run_rules.specs.Doings.Doing.{Admits, BeginsEpoch, Flushes, MakesWant, Reserves, Sent, Took, WritesDown}
+use Rattle.run_rules.specs.Doings.Doing.{Gets, Puts}
+use Rattle.run_rules.specs.Doings.Doing.{Admits, BeginsEpoch, Flushes, MakesWant, Moves, Reserves, Sent, Took}
+use Rattle.run_rules.specs.Doings.Doing.{WritesDown}
 use Rattle.run_rules.specs.Messages.{Said}
 use Rattle.run_rules.specs.Past.{In, appended}
 use Rattle.run_rules.specs.Runs.{CameToServer, StepMeets, StepsMeet}
@@ -34,6 +37,8 @@ use Rattle.run_rules.specs.declared.step.Cause.{Cause}
 use Rattle.run_rules.specs.declared.step.Cause.TheVariants.{Evict, Flushed, Freight, Lapse}
 use Rattle.run_rules.specs.declared.step.Cause.TheVariants.{Line, Message as Came, Restart}
 use Rattle.run_rules.specs.declared.step.Cause.TheVariants.{End}
+use Rattle.run_tokens.proofs.Ships.{ships_back, ships_keep}
+use Rattle.run_rules.specs.Doings.{shipping}
 use Rattle.run_rules.specs.declared.step.Step.{Step}
 
 -- a Fetch that asks for what the Grant brings was taken
@@ -103,7 +108,7 @@ writes (IsDone x ∷ xs) S old = writes xs (WritesDown x ∷ S) (other S (Writes
 writes (Replied x ∷ xs) S old = writes xs S old
 writes (Stored h f ss n ∷ xs) S old = writes xs S old
 writes (IsDown h ∷ xs) S old = writes xs S old
-writes (IsMoved move ∷ xs) S old = writes xs S old
+writes (IsMoved move ∷ xs) S old = writes xs (Moves move ∷ S) (other S (Moves move) (λ h e n b q. cc) old)
 
 causes : (c : Cause) (S : List Doing) → Sensible S → Sensible (after_cause c S)
 causes (Came m) S old = other S (Took m.host m.epoch m.moves m.body) (λ h e n b q. cc) old
@@ -112,7 +117,7 @@ causes Flushed S old = other S Flushes (λ h e n b q. cc) old
 causes (Line line) S old = old
 causes Lapse S old = old
 causes Evict S old = old
-causes (Freight freight) S old = old
+causes (Freight freight) S old = other S (Gets freight.server freight.moves freight.body) (λ h e n b q. cc) old
 causes End S old = old
 
 module _ (firsts : ServerId → ℕ) where
@@ -123,11 +128,12 @@ module _ (firsts : ServerId → ℕ) where
   node (Server k) past s asked blind old v =
       if_server Sensible k v (after_step s (doings_of (firsts v) v past)) (doings_of (firsts v) v past)
       (λ e. subst (λ w. Sensible (after_step s (doings_of (firsts w) w past))) e
-      (other (after_sending s (doings_of (firsts k) k past)) (Reserves s.reserved) (λ h e n b q. cc)
-      (sents s.sent (after_admitting s (doings_of (firsts k) k past)) asked blind
+      (other (after_shipping s (doings_of (firsts k) k past)) (Reserves s.reserved) (λ h e n b q. cc)
+      (ships_keep Sensible (λ T to n b was. other T (Puts to n b) (λ h e n b q. cc) was) s.shipped
+      (after_sending s (doings_of (firsts k) k past)) (sents s.sent (after_admitting s (doings_of (firsts k) k past)) asked blind
       (admits s.admitted (after_deciding s (doings_of (firsts k) k past))
       (writes s.applied (after_cause s.cause (doings_of (firsts k) k past))
-      (causes s.cause (doings_of (firsts k) k past) (old k))))))) (old v)
+      (causes s.cause (doings_of (firsts k) k past) (old k)))))))) (old v)
 
   pub sensible : (past : List Step) → GrantsBringNeeds firsts past → DonesShowNothing firsts past → (v : ServerId)
       → Sensible (doings_of (firsts v) v past)
@@ -145,6 +151,9 @@ module _ (h : HostId) (e n : ℕ) (b : Body) where
     | inr k ↦ k
   ]
 
+  not_shipped : (ms : List Message) (S : List Doing) → In (Took h e n b) (appended (shipping ms) S) → In (Took h e n b) S
+  not_shipped = ships_back (λ T. In (Took h e n b) T) (λ T to k c i. elim i [ inl q ↦ absurd (cc) | inr j ↦ j ])
+
   not_admitted : (cs : List Admission) (S : List Doing) → In (Took h e n b) (appended (admitting cs) S) → In (Took h e n b) S
   not_admitted [] S i = i
   not_admitted (c ∷ cs) S i = elim (not_admitted cs (Admits c.host c.tokens ∷ S) i) [
@@ -159,7 +168,7 @@ module _ (h : HostId) (e n : ℕ) (b : Body) where
   not_written (Replied x ∷ xs) S i = not_written xs S i
   not_written (Stored k f ss l ∷ xs) S i = not_written xs S i
   not_written (IsDown k ∷ xs) S i = not_written xs S i
-  not_written (IsMoved move ∷ xs) S i = not_written xs S i
+  not_written (IsMoved move ∷ xs) S i = elim (not_written xs (Moves move ∷ S) i) [ inl q ↦ absurd (cc) | inr k ↦ k ]
 
   by_cause : (c : Cause) (S : List Doing) → In (Took h e n b) (after_cause c S)
       → ((m : Message) × (c ≡ Came m) × (Took h e n b ≡ Took m.host m.epoch m.moves m.body)) ⊎ In (Took h e n b) S
@@ -172,7 +181,8 @@ module _ (h : HostId) (e n : ℕ) (b : Body) where
   by_cause (Line line) S i = inr i
   by_cause Lapse S i = inr i
   by_cause Evict S i = inr i
-  by_cause (Freight freight) S i = inr i
+  by_cause (Freight freight) S (inl q) = absurd (cc)
+  by_cause (Freight freight) S (inr i) = inr i
   by_cause End S i = inr i
 
   in_step : (s : Step) (S : List Doing) → In (Took h e n b) (after_step s S)
@@ -181,7 +191,8 @@ module _ (h : HostId) (e n : ℕ) (b : Body) where
   in_step s S (inl q) = absurd (cc)
   in_step s S (inr i) =
       by_cause s.cause S (not_written s.applied (after_cause s.cause S)
-      (not_admitted s.admitted (after_deciding s S) (not_sent s.sent (after_admitting s S) i)))
+      (not_admitted s.admitted (after_deciding s S) (not_sent s.sent (after_admitting s S)
+      (not_shipped s.shipped (after_sending s S) i))))
 
   said_on : (k : Node) (s : Step) (A : List Step) (v : ServerId) → Said A v e n b → Said (own_after h k s A) v e n b
   said_on (Host k) s A v q = if_host (λ L. Said L v e n b) k h (s ∷ A) A (λ _. inr q) q

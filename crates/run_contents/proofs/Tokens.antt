@@ -13,9 +13,12 @@ use Rattle.message_types.specs.declared.message.Message.{Message}
 use Rattle.message_types.specs.declared.telling.Bring.{Bring}
 use Rattle.script_lines.specs.declared.script.Script.{Script}
 use Rattle.token_types.specs.declared.token.Token.{Token}
+use Rattle.run_rules.specs.Doings.{after_shipping}
 use Rattle.run_rules.specs.Doings.{Doing, Granted, IsNewlyGranted, admitting, after_admitting, after_cause}
 use Rattle.run_rules.specs.Doings.{after_deciding, after_sending, after_step, deciding, doings_of, epoch, sending}
-use Rattle.run_rules.specs.Doings.Doing.{Admits, BeginsEpoch, Flushes, MakesWant, Reserves, Sent, Took, WritesDown}
+use Rattle.run_rules.specs.Doings.Doing.{Gets, Puts}
+use Rattle.run_rules.specs.Doings.Doing.{Admits, BeginsEpoch, Flushes, MakesWant, Moves, Reserves, Sent, Took}
+use Rattle.run_rules.specs.Doings.Doing.{WritesDown}
 use Rattle.run_rules.specs.Messages.{Said}
 use Rattle.run_rules.specs.Past.{EachInTurn, In, appended}
 use Rattle.run_rules.specs.Runs.{StepMeets, StepsMeet, firsts_of, past_of}
@@ -33,6 +36,7 @@ use Rattle.run_rules.specs.declared.step.Cause.{Cause}
 use Rattle.run_rules.specs.declared.step.Cause.TheVariants.{Evict, Flushed, Freight, Lapse}
 use Rattle.run_rules.specs.declared.step.Cause.TheVariants.{Line, Message as Came, Restart}
 use Rattle.run_rules.specs.declared.step.Cause.TheVariants.{End}
+use Rattle.run_tokens.proofs.Ships.{ships_keep}
 use Rattle.run_rules.specs.declared.step.Step.{Step}
 
 one_of : {A : Type 0} (P : A → Type 0) (xs : List A) (x : A) → EachSound P xs → In x xs → P x
@@ -102,7 +106,8 @@ module _ (script : Script) (v : ServerId) where
   writes (Replied x ∷ xs) S old = writes xs S old
   writes (Stored h f ss n ∷ xs) S old = writes xs S old
   writes (IsDown h ∷ xs) S old = writes xs S old
-  writes (IsMoved move ∷ xs) S old = writes xs S old
+  writes (IsMoved move ∷ xs) S old =
+      writes xs (Moves move ∷ S) (other S (Moves move) (dull (Moves move) (λ h e n b q. cc) (λ h ts q. cc)) old)
 
   pub plain : (S : List Doing) (a : Doing) → ((h : HostId) (e n : ℕ) (b : Body) → a ≡ Sent h e n b → ⊥)
       → ((h : HostId) (ts : List Token) → a ≡ Admits h ts → ⊥) → AllGood S → AllGood (a ∷ S)
@@ -115,7 +120,7 @@ module _ (script : Script) (v : ServerId) where
   causes (Line line) S old = old
   causes Lapse S old = old
   causes Evict S old = old
-  causes (Freight freight) S old = old
+  causes (Freight freight) S old = plain S (Gets freight.server freight.moves freight.body) (λ h e n b q. cc) (λ h ts q. cc) old
   causes End S old = old
 
   module _ (start : Tree) (firsts : ServerId → ℕ) (past : List Step) (run : StepsMeet script start firsts past) where
@@ -134,7 +139,8 @@ module _ (script : Script) (v : ServerId) where
     said_written (Replied x ∷ xs) S old = said_written xs S old
     said_written (Stored h f ss n ∷ xs) S old = said_written xs S old
     said_written (IsDown h ∷ xs) S old = said_written xs S old
-    said_written (IsMoved move ∷ xs) S old = said_written xs S old
+    said_written (IsMoved move ∷ xs) S old =
+        said_written xs (Moves move ∷ S) (on_said S (Moves move) (λ h e n b q. cc) old)
 
     admits_one : (S : List Doing) (h : HostId) (ts : List Token) → MayAdmit v S h ts → AllSaid S → (t : Token) → In t ts
         → Good t
@@ -170,11 +176,12 @@ module _ (script : Script) (v : ServerId) where
         let S = doings_of (firsts v) v past in
         let said : AllSaid (after_cause s.cause S) = λ h e n b i.
         cause_heard h e n b script start firsts past run v s m.1 (heard h e n b script start firsts past run v) i in
-        plain (after_sending s S) (Reserves s.reserved) (λ h e n b q. cc) (λ h ts q. cc)
-        (sents s.sent (after_admitting s S) sound
+        plain (after_shipping s S) (Reserves s.reserved) (λ h e n b q. cc) (λ h ts q. cc)
+        (ships_keep AllGood (λ T to n b was. plain T (Puts to n b) (λ h e n b q. cc) (λ h ts q. cc) was) s.shipped
+        (after_sending s S) (sents s.sent (after_admitting s S) sound
         (admits s.admitted (after_deciding s S) m.0.tokens.admits
         (said_written s.applied (after_cause s.cause S) said)
-        (writes s.applied (after_cause s.cause S) (causes s.cause S old))))
+        (writes s.applied (after_cause s.cause S) (causes s.cause S old)))))
 
 module _ (script : Script) (start : Tree) (firsts : ServerId → ℕ) where
   at_node : (n : Node) (past : List Step) (s : Step) → StepsMeet script start firsts past

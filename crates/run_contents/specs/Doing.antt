@@ -20,12 +20,13 @@ use Rattle.tree_laws.specs.Parts.{Part, Seen}
 use Rattle.tree_laws.specs.Parts.Part.{ByteAt, Entries, Size, Traits}
 use Rattle.run_parts.specs.Doings.{doings_cause}
 use Rattle.run_rules.specs.Doings.{Doing, admitting, doings_of, sending}
-use Rattle.run_rules.specs.Doings.Doing.{MakesWant, Reserves, WritesDown}
+use Rattle.run_rules.specs.Doings.Doing.{MakesWant, Moves, Reserves, WritesDown}
 use Rattle.run_rules.specs.Kept.{filesets_after, filesets_kept, filesets_through, is_refusal, length_given, pieces_in}
 use Rattle.run_rules.specs.ServerDecides.{by_cause, decisions}
 use Rattle.run_rules.specs.Steps.{steps_of_server}
 use Rattle.run_rules.specs.Views.{byte_of}
-use Rattle.run_rules.specs.declared.applied.Applied.TheVariants.{Done as IsDone, IsDown, Stored, Wants as IsWanted}
+use Rattle.run_rules.specs.declared.applied.Applied.TheVariants.{Done as IsDone, IsDown, Moves as IsMoved, Stored}
+use Rattle.run_rules.specs.declared.applied.Applied.TheVariants.{Wants as IsWanted}
 use Rattle.run_parts.specs.Cells.{Does}
 use Rattle.run_parts.specs.Cells.Does.{Loses, Nothing, Sets, Stores}
 use Rattle.run_parts.specs.Contents.{site}
@@ -33,6 +34,7 @@ use Rattle.run_parts.specs.Deeds.{Deed}
 use Rattle.run_rules.specs.declared.applied.Applied.{Applied}
 use Rattle.run_rules.specs.declared.applied.Written.{Written}
 use Rattle.run_rules.specs.declared.step.Cause.{Cause}
+use Rattle.run_rules.specs.Doings.{shipping}
 use Rattle.run_rules.specs.declared.step.Step.{Step}
 
 -- what a doing does to each part
@@ -97,7 +99,7 @@ does_first cause tree _ fid part = Nothing
 abbrev pub with_doing : Effect → List Doing → List Deed
 with_doing doing acts = map (λ act. let deed : Deed = record { act = act; does = doing } in deed) acts
 
--- wants are made and Changes written down, one after the other
+-- wants are made, Changes written down and filesets let go, one after the other
 abbrev pub decided : ServerId → Cause → Tree → List Applied → List Deed
 decided v cause tree [] = []
 decided v cause tree (IsWanted wanted ∷ rest) =
@@ -105,6 +107,8 @@ decided v cause tree (IsWanted wanted ∷ rest) =
 decided v cause tree (IsDone written ∷ rest) =
     record { act = WritesDown written; does = at_home v (writes cause tree written) }
     ∷ decided v cause (filesets_after cause tree (IsDone written)) rest
+decided v cause tree (IsMoved move ∷ rest) =
+    record { act = Moves move; does = does_nothing } ∷ decided v cause tree rest
 decided v cause tree (_ ∷ rest) = decided v cause tree rest
 
 -- all deeds of a server's step, the oldest first: `tree` is what it keeps before the step, `past` its doings
@@ -112,7 +116,8 @@ abbrev pub deeds_of : ServerId → Tree → List Doing → Step → List Deed
 deeds_of v tree past s =
     with_doing (does_first s.cause tree (by_cause s.applied)) (doings_cause s.cause past [])
     ++ (decided v s.cause (filesets_through s.cause (by_cause s.applied) tree) (decisions s.applied)
-    ++ with_doing does_nothing (admitting s.admitted ++ (sending s.sent ++ (Reserves s.reserved ∷ []))))
+    ++ with_doing does_nothing (admitting s.admitted ++ (sending s.sent
+    ++ (shipping s.shipped ++ (Reserves s.reserved ∷ [])))))
 
 abbrev pub deeds_at : Tree → (ServerId → ℕ) → Node → List Step → Step → List Deed
 deeds_at start firsts (Host host) past s = []

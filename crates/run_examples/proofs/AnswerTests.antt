@@ -56,6 +56,7 @@ use Rattle.run_rules.specs.declared.applied.Admission.{Admission}
 use Rattle.run_rules.specs.declared.step.Cause.{Cause}
 use Rattle.run_rules.specs.declared.step.Cause.TheVariants.{End, Evict, Flushed, Freight, Lapse, Message as Came}
 use Rattle.run_rules.specs.declared.step.Cause.TheVariants.{Line as LineOf, Restart}
+use Rattle.run_rules.specs.Doings.{after_shipping}
 use Rattle.run_rules.specs.declared.step.Step.{Step}
 
 unfoldable pub is_empty : Body → Bool
@@ -100,7 +101,7 @@ answer_list past s =
 
 unfoldable pub first_body : ServerId → List Doing → Message → Body → Bool
 first_body server past m (GiveBack g) =
-    is_taken past m && (here server g.fid.fileset m.moves && not (applied server past m.host (number_of g)))
+    is_taken past m && (here server past g.fid.fileset m.moves && not (applied server past m.host (number_of g)))
 first_body server past m Down = not (down past m.host)
 first_body server past m _ = true
 
@@ -182,7 +183,8 @@ module _ (server : ServerId) (past : List Doing) (s : Step) where
   claim_from (LineOf line) c h n claim t first x = absurd (first (claims_before h n claim t x))
   claim_from Lapse c h n claim t first x = absurd (first (claims_before h n claim t x))
   claim_from Evict c h n claim t first x = absurd (first (claims_before h n claim t x))
-  claim_from (Freight freight) c h n claim t first x = absurd (first (claims_before h n claim t x))
+  claim_from (Freight freight) c h n claim t first (inl (is, l)) = absurd (let p = is in cc)
+  claim_from (Freight freight) c h n claim t first (inr (x, b)) = absurd (first (claims_before h n claim t x))
   claim_from End c h n claim t first x = absurd (first (claims_before h n claim t x))
 
   pub all_answered : passes (answer_list past s) ≡ true → OnlyAnswers past s × ServerAnswers server past s
@@ -412,10 +414,10 @@ module _ (server : ServerId) (tree : Tree) (past : List Doing) (s : Step) where
       first_is m g c is =
           let e : first_body server past m (GiveBack g) ≡ true = subst (λ b. first_body server past m b ≡ true) is
           (at_cause (λ m. first_body server past m m.body) s m first c) in
-          let x = here server g.fid.fileset m.moves && not (applied server past m.host (number_of g)) in
+          let x = here server past g.fid.fileset m.moves && not (applied server past m.host (number_of g)) in
           let p = and_parts (live past m.host && (m.epoch == epoch past)) x e in
           let q = and_parts (live past m.host) (m.epoch == epoch past) p.0 in
-          let r = and_parts (here server g.fid.fileset m.moves) (not (applied server past m.host (number_of g))) p.1 in (
+          let r = and_parts (here server past g.fid.fileset m.moves) (not (applied server past m.host (number_of g))) p.1 in (
             (
               m.moves,
               ((m, c, refl, eqb-true m.epoch (epoch past) q.1, refl, is), live_yes past m.host q.0),
@@ -488,7 +490,7 @@ step_meets script start server steps past s applies_ tells e =
           writes = may_all server (deciding s.applied) (after_cause s.cause past) t.1.0;
           admits = may_all server (admitting s.admitted) (after_deciding s past) t.1.1.0;
           sends = may_all server (sending s.sent) (after_admitting s past) t.1.1.1.0;
-          reserves = may_act server (after_sending s past) (Reserves s.reserved) (none_right s.reserved t.1.1.1.1.0);
+          reserves = may_act server (after_shipping s past) (Reserves s.reserved) (none_right s.reserved t.1.1.1.1.0);
         };
         no_host = record {
           causes = (
@@ -527,7 +529,7 @@ step_meets script start server steps past s applies_ tells e =
       };
     }
   where
-    none_right : (ts : List Token) → is_none ts ≡ true → act_right server (after_sending s past) (Reserves ts) ≡ true
+    none_right : (ts : List Token) → is_none ts ≡ true → act_right server (after_shipping s past) (Reserves ts) ≡ true
     none_right ts e = e
 
     line_at : (lines : List Line) (n : ℕ) → lines_right lines steps (LineOf n) ≡ true

@@ -56,7 +56,7 @@ unfoldable pub bring_tests : ServerId → List Doing → HostId → ℕ → Brin
 bring_tests server past h n w =
     over past
     ∷ live past h
-    ∷ here server w.fid.fileset n
+    ∷ here server past w.fid.fileset n
     ∷ (nat_lt 0 w.stamp && told_below w.fid w.stamp past)
     ∷ list_all (is_token_of server (epoch past) h w.fid) w.tokens
     ∷ list_all (λ t. list_all (is_newer (epoch past) t) (brought_ever past)) w.tokens
@@ -98,27 +98,27 @@ body_right server past h n (Grant g) = passes (bring_tests server past h n g.bri
 body_right server past h n (Done d) =
     is_none d.bring.tokens || (passes (bring_tests server past h n d.bring) && took (change_for n d) past h)
 body_right server past h n (Revoke r) =
-    (here server r.fid.fileset n && told_below r.fid r.stamp past) && list_all (names_granted server past h r.fid) r.ids
-body_right server past h n (Gone number) = here server number.fileset n && applied server past h number
+    (here server past r.fid.fileset n && told_below r.fid r.stamp past) && list_all (names_granted server past h r.fid) r.ids
+body_right server past h n (Gone number) = here server past number.fileset n && applied server past h number
 body_right server past h n (Reclaimed r) = is_none r.applied && is_none r.left_out
 body_right server past h n _ = true
 
-unfoldable pub claims_here : ServerId → ReclaimOf → Token → Bool
-claims_here server claim t =
-    list_any (λ o. same_fileset o.fileset t.fid.fileset && here server o.fileset o.moves) claim.numbers
+unfoldable pub claims_here : ServerId → List Doing → ReclaimOf → Token → Bool
+claims_here server past claim t =
+    list_any (λ o. same_fileset o.fileset t.fid.fileset && here server past o.fileset o.moves) claim.numbers
 
-unfoldable pub is_claim_for : ServerId → HostId → List Token → ℕ → Body → Bool
-is_claim_for server h ts n (Reclaim claim) =
+unfoldable pub is_claim_for : ServerId → List Doing → HostId → List Token → ℕ → Body → Bool
+is_claim_for server past h ts n (Reclaim claim) =
     (list_all (λ o. o.give == 0) claim.numbers
-    && list_all (λ t. list_any (same_token t) claim.tokens && (same_host t.host h && claims_here server claim t)) ts)
+    && list_all (λ t. list_any (same_token t) claim.tokens && (same_host t.host h && claims_here server past claim t)) ts)
     && (list_all (λ t. list_any (same_token t) ts) claim.tokens && apart same_token_id ts)
-is_claim_for server h ts n _ = false
+is_claim_for server past h ts n _ = false
 
 unfoldable pub act_right : ServerId → List Doing → Doing → Bool
 act_right server past (Sent h e n b) = (e == epoch past) && body_right server past h n b
 act_right server past (Admits h ts) =
     (not (reclaimed past h) && live past h)
-    && ((quiet past && is_none (granted server past)) && took (is_claim_for server h ts) past h)
+    && ((quiet past && is_none (granted server past)) && took (is_claim_for server past h ts) past h)
 act_right server past (WritesDown w) =
     took (change_of w) past w.answer.host && is_fresh past w.answer.host w.fileset w.number
 act_right server past (Reserves ts) = is_none ts
@@ -288,30 +288,30 @@ unfolding may_words
 admit_is server past h ts e = go (found.0) (found.1) (found.2) (found.3)
   where
     halves : ((not (reclaimed past h) && live past h) ≡ true)
-        × (((quiet past && is_none (granted server past)) && took (is_claim_for server h ts) past h) ≡ true)
+        × (((quiet past && is_none (granted server past)) && took (is_claim_for server past h ts) past h) ≡ true)
     halves = and_parts (not (reclaimed past h) && live past h)
-        ((quiet past && is_none (granted server past)) && took (is_claim_for server h ts) past h) e
+        ((quiet past && is_none (granted server past)) && took (is_claim_for server past h ts) past h) e
 
-    rest : ((quiet past && is_none (granted server past)) ≡ true) × (took (is_claim_for server h ts) past h ≡ true)
-    rest = and_parts (quiet past && is_none (granted server past)) (took (is_claim_for server h ts) past h) halves.1
+    rest : ((quiet past && is_none (granted server past)) ≡ true) × (took (is_claim_for server past h ts) past h ≡ true)
+    rest = and_parts (quiet past && is_none (granted server past)) (took (is_claim_for server past h ts) past h) halves.1
 
     still : (quiet past ≡ true) × (is_none (granted server past) ≡ true)
     still = and_parts (quiet past) (is_none (granted server past)) rest.0
 
-    found : (n : ℕ) × (b : Body) × TookNow past h n b × (is_claim_for server h ts n b ≡ true)
-    found = took_yes (is_claim_for server h ts) past h rest.1
+    found : (n : ℕ) × (b : Body) × TookNow past h n b × (is_claim_for server past h ts n b ≡ true)
+    found = took_yes (is_claim_for server past h ts) past h rest.1
 
-    here_it : (claim : ReclaimOf) (t : Token) → claims_here server claim t ≡ true → ClaimsHere server past claim t
+    here_it : (claim : ReclaimOf) (t : Token) → claims_here server past claim t ≡ true → ClaimsHere server past claim t
     here_it claim t x =
-        let p = some_in (λ o. same_fileset o.fileset t.fid.fileset && here server o.fileset o.moves) claim.numbers x in
-        let q = and_parts (same_fileset p.0.fileset t.fid.fileset) (here server p.0.fileset p.0.moves) p.2 in
+        let p = some_in (λ o. same_fileset o.fileset t.fid.fileset && here server past o.fileset o.moves) claim.numbers x in
+        let q = and_parts (same_fileset p.0.fileset t.fid.fileset) (here server past p.0.fileset p.0.moves) p.2 in
         (p.0, p.1, fileset_is p.0.fileset t.fid.fileset q.0, here_yes server past p.0.fileset p.0.moves q.1)
 
-    go : (n : ℕ) (b : Body) → TookNow past h n b → is_claim_for server h ts n b ≡ true → MayAdmit server past h ts
+    go : (n : ℕ) (b : Body) → TookNow past h n b → is_claim_for server past h ts n b ≡ true → MayAdmit server past h ts
     go n (Reclaim claim) x c =
         let up = list_all (λ o. o.give == 0) claim.numbers in
         let own_ = list_all (λ t. list_any (same_token t) claim.tokens && (same_host t.host h &&
-        claims_here server claim t)) ts in
+        claims_here server past claim t)) ts in
         let all_ = list_all (λ t. list_any (same_token t) ts) claim.tokens in
         let p = and_parts (up && own_) (all_ && apart same_token_id ts) c in
         let q = and_parts up own_ p.0 in
@@ -326,10 +326,10 @@ admit_is server past h ts e = go (found.0) (found.1) (found.2) (found.3)
           waited = λ o m given at. absurd (
               let z = eqb-true o.give 0 (at_all (λ o. o.give == 0) claim.numbers o q.0 m) in omega (arith, given, z));
           sound = λ t m.
-              let k = and_parts (list_any (same_token t) claim.tokens) (same_host t.host h && claims_here server claim t)
-              (at_all (λ t. list_any (same_token t) claim.tokens && (same_host t.host h && claims_here server claim t)) ts
+              let k = and_parts (list_any (same_token t) claim.tokens) (same_host t.host h && claims_here server past claim t)
+              (at_all (λ t. list_any (same_token t) claim.tokens && (same_host t.host h && claims_here server past claim t)) ts
               t q.1 m) in
-              let j = and_parts (same_host t.host h) (claims_here server claim t) k.1 in (
+              let j = and_parts (same_host t.host h) (claims_here server past claim t) k.1 in (
                 in_tokens t claim.tokens k.0,
                 host_is t.host h j.0,
                 here_it claim t j.1,
@@ -373,13 +373,13 @@ may_act server past a e = record {
       ];
   revokes = λ h f n r i is m. revoke_is server past h r i (revoke h f n r is).1 m;
   revokes_here = λ h f n r is.
-      here_yes server past r.fid.fileset n (and_parts (here server r.fid.fileset n) (told_below r.fid r.stamp past)
+      here_yes server past r.fid.fileset n (and_parts (here server past r.fid.fileset n) (told_below r.fid r.stamp past)
       (revoke h f n r is).0).0;
   stamps = λ h f n x r is told_.
-      told_is r.fid r.stamp past x (and_parts (here server r.fid.fileset n) (told_below r.fid r.stamp past)
+      told_is r.fid r.stamp past x (and_parts (here server past r.fid.fileset n) (told_below r.fid r.stamp past)
       (revoke h f n r is).0).1 told_;
   gones = λ h f n g is.
-      let p = and_parts (here server g.fileset n) (applied server past h g) (sends h f n (Gone g) is).1 in
+      let p = and_parts (here server past g.fileset n) (applied server past h g) (sends h f n (Gone g) is).1 in
       (here_yes server past g.fileset n p.0, applied_yes server past h g p.1);
   reclaimed = λ h f n r g is m.
       absurd (none_in r.applied g (and_parts (is_none r.applied) (is_none r.left_out) (sends h f n (Reclaimed r) is).1).0
@@ -401,10 +401,10 @@ may_act server past a e = record {
         and_parts (f == epoch past) (body_right server past h n b) (subst (λ x. act_right server past x ≡ true) is e)
 
     revoke : (h : HostId) (f n : ℕ) (r : RevokeOf) → a ≡ Sent h f n (Revoke r)
-        → ((here server r.fid.fileset n && told_below r.fid r.stamp past) ≡ true)
+        → ((here server past r.fid.fileset n && told_below r.fid r.stamp past) ≡ true)
         × (list_all (names_granted server past h r.fid) r.ids ≡ true)
     revoke h f n r is =
-        and_parts (here server r.fid.fileset n && told_below r.fid r.stamp past)
+        and_parts (here server past r.fid.fileset n && told_below r.fid r.stamp past)
         (list_all (names_granted server past h r.fid) r.ids) (sends h f n (Revoke r) is).1
 
     wrote : (w : Written) → a ≡ WritesDown w

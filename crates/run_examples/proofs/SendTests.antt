@@ -155,17 +155,17 @@ where_change (Changes c) test = test c
 where_change (Asks f) test = true
 
 -- what may be decided
-unfoldable pub is_here_now : ServerId → FilesetId → ℕ → Bool
-is_here_now server fs n = ((fs.0 == 0) && (n == 0)) || here server fs n
+unfoldable pub is_here_now : ServerId → List Doing → FilesetId → ℕ → Bool
+is_here_now server past fs n = ((fs.0 == 0) && (n == 0)) || here server past fs n
 
 unfoldable pub is_meant : ChangeOf → Bool
 is_meant c =
     implies c.enter (is_some (fileset_of c.call))
     && (implies (is_use c.call) (same_fileset c.fid.fileset c.fileset) && not (locks_nothing c.call))
 
-unfoldable pub asked_here : ServerId → ℕ → Request → Bool
-asked_here server n (Asks f) = here server f.fid.fileset n
-asked_here server n (Changes c) = is_here_now server c.fileset n && is_meant c
+unfoldable pub asked_here : ServerId → List Doing → ℕ → Request → Bool
+asked_here server past n (Asks f) = here server past f.fid.fileset n
+asked_here server past n (Changes c) = is_here_now server past c.fileset n && is_meant c
 
 unfoldable pub new_numbered : List Doing → HostId → Request → Bool
 new_numbered past h (Asks f) = true
@@ -177,7 +177,7 @@ comes_as before w m =
 
 unfoldable pub is_new : ServerId → List Doing → List Doing → Step → Wanted → Bool
 is_new server before past s w =
-    (by_message false (comes_as before w) s.cause && asked_here server w.moves w.request)
+    (by_message false (comes_as before w) s.cause && asked_here server before w.moves w.request)
     && (new_numbered past w.host w.request
     && list_all (λ v. not (same_host v.host w.host && same_asked v.request w.request)) (queue past))
 
@@ -344,7 +344,7 @@ unfoldable pub send_right : ServerId → Tree → Step → List Doing → Doing 
 send_right server tree s past (Sent h e n (Grant g)) =
     there_right ((cell_at tree g.bring.fid Traits).kept) && list_any (grants_for server past h n g) (queue past)
 send_right server tree s past (Sent h e n (Done d)) =
-    (live past h && is_here_now server d.fileset n) && outcome_right server tree past h n d d.outcome
+    (live past h && is_here_now server past d.fileset n) && outcome_right server tree past h n d d.outcome
 send_right server tree s past (Sent h e n (Revoke r)) =
     list_all (λ i. list_any (asks_back server past s h i) (granted server past)) r.ids
 send_right server tree s past _ = true
@@ -589,11 +589,11 @@ needs_are : (needs : List Need) (ts : List Token) → meets_needs needs ts ≡ t
 unfolding meets_needs
 needs_are needs ts e = list_is same_need need_is (map need_of ts) needs e
 
-here_either : (server : ServerId) (past : List Doing) (fs : FilesetId) (n : ℕ) → is_here_now server fs n ≡ true
+here_either : (server : ServerId) (past : List Doing) (fs : FilesetId) (n : ℕ) → is_here_now server past fs n ≡ true
     → IsDecidedHere server past fs n
 unfolding is_here_now
 here_either server past fs n e =
-    elim (or_cases ((fs.0 == 0) && (n == 0)) (here server fs n) e) [
+    elim (or_cases ((fs.0 == 0) && (n == 0)) (here server past fs n) e) [
       | inl p ↦ (let q = and_parts (fs.0 == 0) (n == 0) p in inl (eqb-true fs.0 0 q.0, eqb-true n 0 q.1))
       | inr p ↦ inr (here_yes server past fs n p)
     ]
@@ -618,9 +618,9 @@ new_yes : (server : ServerId) (before past : List Doing) (s : Step) (w : Wanted)
 unfolding send_words
 new_yes server before past s w e =
     let alone_ = list_all (λ v. not (same_host v.host w.host && same_asked v.request w.request)) (queue past) in
-    let x = by_message false (comes_as before w) s.cause && asked_here server w.moves w.request in
+    let x = by_message false (comes_as before w) s.cause && asked_here server before w.moves w.request in
     let p = and_parts x (new_numbered past w.host w.request && alone_) e in
-    let q = and_parts (by_message false (comes_as before w) s.cause) (asked_here server w.moves w.request) p.0 in
+    let q = and_parts (by_message false (comes_as before w) s.cause) (asked_here server before w.moves w.request) p.0 in
     let r = and_parts (new_numbered past w.host w.request) alone_ p.1 in
     let c = came (comes_as before w) s.cause q.0 in
     let m = c.0 in
@@ -649,10 +649,10 @@ new_yes server before past s w e =
     is_off true h = cc
     is_off false h = refl
 
-    here_it : (r : Request) → asked_here server w.moves r ≡ true → IsAskedHere server before w.moves r
+    here_it : (r : Request) → asked_here server before w.moves r ≡ true → IsAskedHere server before w.moves r
     here_it (Asks f) t = here_yes server before f.fid.fileset w.moves t
     here_it (Changes c) t =
-        let p = and_parts (is_here_now server c.fileset w.moves) (is_meant c) t in
+        let p = and_parts (is_here_now server before c.fileset w.moves) (is_meant c) t in
         let named = is_some (fileset_of c.call) in
         let at_home = same_fileset c.fid.fileset c.fileset in
         let q = and_parts (implies c.enter named) (implies (is_use c.call) at_home && not (locks_nothing c.call)) p.1 in
@@ -1129,9 +1129,9 @@ may_send server tree s past a tells e = record {
       (list_any (grants_for server past h n g) (queue past)) (at (Sent h f n (Grant g)) is) in
       grant_so server tree past h n g (subst (TellsAct tree) is tells) p.0 p.1;
   done_for = λ h f n d is.
-      let p = and_parts (live past h && is_here_now server d.fileset n) (outcome_right server tree past h n d d.outcome)
+      let p = and_parts (live past h && is_here_now server past d.fileset n) (outcome_right server tree past h n d d.outcome)
       (at (Sent h f n (Done d)) is) in
-      let q = and_parts (live past h) (is_here_now server d.fileset n) p.0 in (
+      let q = and_parts (live past h) (is_here_now server past d.fileset n) p.0 in (
         live_yes past h q.0,
         here_either server past d.fileset n q.1,
         outcome_is server tree past h n d d.outcome refl p.1,

@@ -8,6 +8,7 @@ use Rattle.run_examples.proofs.AnswerTests.{answer_words, step_meets}
 use Rattle.run_examples.proofs.GrantWords.{brings, brought_ever, is_below, keeps_none, told_below}
 use Rattle.run_examples.proofs.ServerLists.{queue, queue_is}
 use Rattle.run_examples.proofs.ServerWords.{admits_host, applied, away, begins, claimant, claimants, down, goes_away}
+use Rattle.run_examples.proofs.ServerWords.{is_writable}
 use Rattle.run_examples.proofs.ServerWords.{heard, heard_from, here, listed, live, reclaimed, takes_bye, takes_down}
 use Rattle.run_examples.proofs.ServerWords.{takes_give, takes_hello}
 use Rattle.run_examples.specs.Laws.{restarting, writing}
@@ -37,7 +38,7 @@ use Rattle.run_rules.specs.declared.step.Step.{Step}
 -- all words of the tests
 unfoldable pub served_words : ℕ
 unfolding home tree_given updated takes_down takes_hello down listed takes_bye goes_away away live heard_from heard begins
-    admits_host reclaimed here takes_give applied claimant claimants brings brought_ever is_below told_below keeps_none
+    admits_host reclaimed is_writable here takes_give applied claimant claimants brings brought_ever is_below told_below keeps_none
     answer_words
 served_words = 0
 

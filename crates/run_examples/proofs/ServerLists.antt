@@ -38,7 +38,7 @@ use Rattle.run_rules.specs.declared.applied.Wanted.{Wanted}
 
 -- a host's message is taken: it is of the server's epoch, the host is live, and its fileset is here in its stay
 unfoldable pub takes_it : ServerId → List Doing → HostId → FilesetId → HostId → ℕ → ℕ → Bool
-takes_it server past h fs host e n = (same_host host h && (e == epoch past)) && (live past h && here server fs n)
+takes_it server past h fs host e n = (same_host host h && (e == epoch past)) && (live past h && here server past fs n)
 
 -- a Returned or a give-back names the token
 unfoldable pub names_token : ServerId → List Doing → Doing → HostId → TokenId → Bool
@@ -141,9 +141,9 @@ takes_yes : (server : ServerId) (past : List Doing) (h : HostId) (fs : FilesetId
     → takes_it server past h fs host e n ≡ true → TakesOf server past (Took host e n b) h fs b
 unfolding list_words
 takes_yes server past h fs host e n b t =
-    let p = and_parts (same_host host h && (e == epoch past)) (live past h && here server fs n) t in
+    let p = and_parts (same_host host h && (e == epoch past)) (live past h && here server past fs n) t in
     let q = and_parts (same_host host h) (e == epoch past) p.0 in
-    let r = and_parts (live past h) (here server fs n) p.1 in
+    let r = and_parts (live past h) (here server past fs n) p.1 in
     let hh = host_is host h q.0 in
     let ee = eqb-true e (epoch past) q.1 in
     (n, here_yes server past fs n r.1, ((λ i. Took (hh i) (ee i) n b), live_yes past h r.0))
@@ -152,9 +152,9 @@ takes_is : (server : ServerId) (past : List Doing) (h : HostId) (fs : FilesetId)
     → IsLive past h → takes_it server past h fs h (epoch past) n ≡ true
 unfolding list_words
 takes_is server past h fs n at l =
-    and_from (same_host h h && (epoch past == epoch past)) (live past h && here server fs n)
+    and_from (same_host h h && (epoch past == epoch past)) (live past h && here server past fs n)
     (and_from (same_host h h) (epoch past == epoch past) (hosts h h refl) (same_is (epoch past)))
-    (and_from (live past h) (here server fs n) (live_is past h l) (here_is server fs n at))
+    (and_from (live past h) (here server past fs n) (live_is past h l) (here_is server past fs n at))
 
 -- an identity in a list, by a test and back
 pub in_ids : (i : TokenId) (is : List TokenId) → list_any (same_id i) is ≡ true → In i is

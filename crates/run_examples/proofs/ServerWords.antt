@@ -12,9 +12,9 @@ use Rattle.message_types.specs.declared.giving.Give.{Give}
 use Rattle.message_types.specs.declared.giving.Reclaim.{Reclaim as ReclaimOf}
 use Rattle.message_types.specs.declared.message.Body.TheVariants.{Hello, Grant, Done, GiveBack, Reclaim, Down, Bye}
 use Rattle.run_rules.specs.Doings.{Doing, GoesAway, HasGoneAway, HasGoneDown, HasReclaimed, Hears, Here, IsApplied}
-use Rattle.run_rules.specs.Doings.{IsLive, IsNewEpoch, Listed, TakesOf, TookNow, epoch}
+use Rattle.run_rules.specs.Doings.{IsLive, IsNewEpoch, Listed, Slot, TakesOf, TookNow, epoch, slot_of}
+use Rattle.run_rules.specs.Doings.Slot.{Absent, Arriving, Gone, Leaving, Writable}
 use Rattle.run_rules.specs.Doings.Doing.{Admits, BeginsEpoch, Sent, Took}
-use Rattle.run_rules.specs.Messages.{Stay, first_stay, home}
 use Rattle.run_rules.specs.Past.{In}
 use Rattle.run_rules.specs.declared.applied.Request.TheVariants.{Change as Changes, Fetch as Asks}
 use Rattle.run_rules.specs.declared.applied.Request.{Request}
@@ -282,22 +282,34 @@ reclaimed_is (a ∷ past) h (inr x) =
     (begin_yes a e))))
 
 -- give-backs that were taken, in whatever epoch
-unfoldable pub here : ServerId → FilesetId → ℕ → Bool
-here server fs n = same_server (home fs) server && (n == 0)
+unfoldable pub is_writable : ℕ → Slot → Bool
+is_writable n (Writable moves) = moves == n
+is_writable n _ = false
 
-pub here_yes : (server : ServerId) (past : List Doing) (fs : FilesetId) (n : ℕ) → here server fs n ≡ true
+unfoldable pub here : ServerId → List Doing → FilesetId → ℕ → Bool
+here server past fs n = is_writable n (slot_of server past fs)
+
+writable_yes : (n : ℕ) (slot : Slot) → is_writable n slot ≡ true → slot ≡ Writable n
+unfolding is_writable
+writable_yes n (Writable moves) t = ap Writable (eqb-true moves n t)
+writable_yes n Absent t = absurd (cc)
+writable_yes n (Leaving moves to ship) t = absurd (cc)
+writable_yes n (Arriving moves from ship parts) t = absurd (cc)
+writable_yes n (Gone moves to) t = absurd (cc)
+
+writable_is : (n : ℕ) (slot : Slot) → slot ≡ Writable n → is_writable n slot ≡ true
+unfolding is_writable
+writable_is n slot e = subst (λ s. is_writable n s ≡ true) (sym e) (same_is n)
+
+pub here_yes : (server : ServerId) (past : List Doing) (fs : FilesetId) (n : ℕ) → here server past fs n ≡ true
     → Here server past fs n
 unfolding takes_down takes_hello down listed takes_bye goes_away away live heard_from heard begins admits_host
     reclaimed here
-here_yes server past fs n t =
-    let p = and_parts (same_server (home fs) server) (n == 0) t in
-    let s = server_is (home fs) server p.0 in
-    let m = sym (eqb-true n 0 p.1) in
-    λ i. record { server = s i; moves = m i }
+here_yes server past fs n t = writable_yes n (slot_of server past fs) t
 
 unfoldable pub takes_give : ServerId → List Doing → HostId → AppliedGive → Doing → Bool
 takes_give server past h number (Took host e n (GiveBack g)) =
-    ((same_host host h && (e == epoch past)) && (live past h && here server g.fid.fileset n))
+    ((same_host host h && (e == epoch past)) && (live past h && here server past g.fid.fileset n))
     && (same_fileset g.fid.fileset number.fileset && nat_le number.number g.number)
 takes_give server past h number _ = false
 
@@ -312,11 +324,11 @@ give_taken : (server : ServerId) (past : List Doing) (h : HostId) (number : Appl
 unfolding takes_down takes_hello down listed takes_bye goes_away away live heard_from heard begins admits_host
     reclaimed here takes_give applied
 give_taken server past h number (Took host e n (GiveBack g)) t =
-    let x = (same_host host h && (e == epoch past)) && (live past h && here server g.fid.fileset n) in
+    let x = (same_host host h && (e == epoch past)) && (live past h && here server past g.fid.fileset n) in
     let p = and_parts x (same_fileset g.fid.fileset number.fileset && nat_le number.number g.number) t in
-    let q = and_parts (same_host host h && (e == epoch past)) (live past h && here server g.fid.fileset n) p.0 in
+    let q = and_parts (same_host host h && (e == epoch past)) (live past h && here server past g.fid.fileset n) p.0 in
     let r = and_parts (same_host host h) (e == epoch past) q.0 in
-    let u = and_parts (live past h) (here server g.fid.fileset n) q.1 in
+    let u = and_parts (live past h) (here server past g.fid.fileset n) q.1 in
     let w = and_parts (same_fileset g.fid.fileset number.fileset) (nat_le number.number g.number) p.1 in
     let f = fileset_is g.fid.fileset number.fileset w.0 in
     let hh = host_is host h r.0 in
@@ -348,13 +360,11 @@ applied_yes server (a ∷ past) h number t =
       | inr p ↦ inr (applied_yes server past h number p)
     ]
 
-pub here_is : (server : ServerId) (fs : FilesetId) (n : ℕ) → first_stay fs ≡ record { server = server; moves = n }
-    → here server fs n ≡ true
+pub here_is : (server : ServerId) (past : List Doing) (fs : FilesetId) (n : ℕ) → Here server past fs n
+    → here server past fs n ≡ true
 unfolding takes_down takes_hello down listed takes_bye goes_away away live heard_from heard begins admits_host
     reclaimed here takes_give applied
-here_is server fs n e =
-    and_from (same_server (home fs) server) (n == 0) (servers (home fs) server (ap (λ (x : Stay). x.server) e))
-    (eq-eqb n 0 (sym (ap (λ (x : Stay). x.moves) e)))
+here_is server past fs n e = writable_is n (slot_of server past fs) e
 
 taken_give : (server : ServerId) (past : List Doing) (h : HostId) (number : AppliedGive) (a : Doing) (g : Give)
     → TakesOf server past a h number.fileset (GiveBack g) → g.fid.fileset ≡ number.fileset → number.number ≤ g.number
@@ -363,11 +373,11 @@ unfolding takes_down takes_hello down listed takes_bye goes_away away live heard
     reclaimed here takes_give applied
 taken_give server past h number a g (n, at, (is, l)) f k =
     subst (λ x. takes_give server past h number x ≡ true) (sym is)
-    (and_from ((same_host h h && (epoch past == epoch past)) && (live past h && here server g.fid.fileset n))
+    (and_from ((same_host h h && (epoch past == epoch past)) && (live past h && here server past g.fid.fileset n))
     (same_fileset g.fid.fileset number.fileset && nat_le number.number g.number)
-    (and_from (same_host h h && (epoch past == epoch past)) (live past h && here server g.fid.fileset n) (and_from
+    (and_from (same_host h h && (epoch past == epoch past)) (live past h && here server past g.fid.fileset n) (and_from
     (same_host h h) (epoch past == epoch past) (hosts h h refl) (same_is (epoch past)))
-    (and_from (live past h) (here server g.fid.fileset n) (live_is past h l) (here_is server g.fid.fileset n (subst
+    (and_from (live past h) (here server past g.fid.fileset n) (live_is past h l) (here_is server past g.fid.fileset n (subst
     (λ x. Here server past x n) (sym f) at))))
     (and_from (same_fileset g.fid.fileset number.fileset) (nat_le number.number g.number)
     (filesets g.fid.fileset number.fileset f) (le-leb number.number g.number k)))

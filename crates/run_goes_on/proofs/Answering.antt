@@ -39,7 +39,11 @@ use Rattle.run_rules.specs.declared.step.Cause.TheVariants.{End, Evict, Flushed,
 use Rattle.run_rules.specs.declared.step.Cause.TheVariants.{Line, Message as Came, Restart}
 use Rattle.run_rules.specs.declared.step.Step.{Step}
 use Rattle.run_tokens.proofs.Law.{Whole}
-use Rattle.run_tokens.proofs.Words.{acts_after, if_host, if_server, own_after}
+use Rattle.run_rules.specs.Kept.{filesets_kept}
+use Rattle.run_tokens.proofs.TokenRun.{works_none}
+use Rattle.run_tokens.proofs.Unmoved.{admitting_put, cause_put, deciding_put, here_is, here_was, step_put}
+use Rattle.run_tokens.proofs.Words.{acts_after, if_host, if_server, own_after, stay_first}
+use Rattle.run_tokens.specs.Unmoved.{MovesNone, StaysPut}
 use Rattle.run_goes_on.proofs.Arriving.{due_at, due_of, found, from_cause, from_one, host_sends, meets_at, step_on}
 use Rattle.run_goes_on.proofs.Arriving.{whole_at}
 use Rattle.run_goes_on.proofs.Claiming.{IsOnList, acts_later, own_later, waiting}
@@ -52,6 +56,7 @@ use Rattle.run_goes_on.proofs.Telling.{After, above_before, after, below, decide
 use Rattle.run_goes_on.proofs.Telling.{here, learns_by, less, mark_before}
 use Rattle.run_goes_on.proofs.Telling.{no_lapse, server_due, server_may, server_sends, tells_none, whole_cut}
 use Rattle.run_goes_on.specs.Rest.{AllIsOver, IsTakenIn, LapsesIn, NoneIsHeld}
+use Rattle.run_rules.specs.Doings.{Here}
 use Rattle.run_goes_on.specs.Waiting.{ClaimsAreAnswered}
 
 -- what is taken is a doing that takes it
@@ -64,12 +69,12 @@ of_takes : (v : ServerId) (h : HostId) (g : Give) (S : List Doing) (a : Doing)
 of_takes v h g S a x = (h, epoch S, x.0, GiveBack g, x.2.0)
 
 -- it was of a fileset that is here
-took_here : (v : ServerId) (h : HostId) (n : ℕ) (g : Give) (S : List Doing)
+took_here : (v : ServerId) (h : HostId) (n : ℕ) (g : Give) (S : List Doing) → StaysPut S
     → first_stay g.fid.fileset ≡ record { server = v; moves = n } → TookNow S h n (GiveBack g)
     → TookOf v S h g.fid.fileset (GiveBack g)
-took_here v h n g [] is x = elim x [ ]
-took_here v h n g (a ∷ S) is (inl x) = inl (n, is, x)
-took_here v h n g (a ∷ S) is (inr x) = inr (took_here v h n g S is x.0, x.1)
+took_here v h n g [] put is x = elim x [ ]
+took_here v h n g (a ∷ S) put is (inl x) = inl (n, here_was v S g.fid.fileset n (λ o. put (inr o)) is, x)
+took_here v h n g (a ∷ S) put is (inr x) = inr (took_here v h n g S (λ o. put (inr o)) is x.0, x.1)
 
 -- # What a server said by Gone in its epoch it took in it
 module _ (script : Script) (start : Tree) (firsts : ServerId → ℕ) (host : HostId) (v : ServerId) where
@@ -372,6 +377,17 @@ module _ (script : Script) (start : Tree) (firsts : ServerId → ℕ) (real : (v
       same : epoch caused ≡ e0
       same = same_by u.cause refl ∙ now
 
+      -- where filesets are
+      put : StaysPut S
+      put = ((all (u ∷ l) p a.whole).at v).served.put
+
+      none_moved : MovesNone u
+      none_moved =
+          works_none v (filesets_kept start v (steps_of_server v p)) S u (may_at l p u a.whole at).works.applies
+
+      here_later : (T : List Doing) → StaysPut T → (fs : FilesetId) (n : ℕ) → Here v caused fs n → Here v T fs n
+      here_later T put_T fs n h = here_was v T fs n put_T (here_is v caused fs n (cause_put u.cause S put) h)
+
       module _ (took : TookNow caused host m.moves (Reclaim claim)) where
         lacks_caused : HasTakenGives v caused host claim → ⊥
         lacks_caused whole =
@@ -379,14 +395,15 @@ module _ (script : Script) (start : Tree) (firsts : ServerId → ℕ) (real : (v
             no_answer l p u a at k.1.0 k.1.1 same
 
         lacks_after : HasTakenGives v (after_step u S) host claim → ⊥
-        lacks_after whole = lacks_caused (λ o i up h. (let k = whole o i up h in (
-          k.0,
-          subst (λ (fs : FilesetId). TookOf v caused host fs (GiveBack k.0)) k.2
-              (taken_step (λ before x. TakesOf v before x host k.0.fid.fileset (GiveBack k.0)) (of_takes v host k.0) u S
-              (subst (λ (fs : FilesetId). TookOf v (after_step u S) host fs (GiveBack k.0)) (sym k.2) k.1)),
-          k.2,
-          k.3,
-        )))
+        lacks_after whole = lacks_caused (λ o i up h. (let k = whole o i up (here_later (after_step u S)
+            (step_put u S none_moved put) o.fileset o.moves h) in (
+              k.0,
+              subst (λ (fs : FilesetId). TookOf v caused host fs (GiveBack k.0)) k.2
+                  (taken_step (λ before x. TakesOf v before x host k.0.fid.fileset (GiveBack k.0)) (of_takes v host k.0) u S
+                  (subst (λ (fs : FilesetId). TookOf v (after_step u S) host fs (GiveBack k.0)) (sym k.2) k.1)),
+              k.2,
+              k.3,
+            )))
 
         admits_not : (c : Admission) → In c u.admitted → c.host ≡ host → ⊥
         admits_not c i is =
@@ -396,7 +413,9 @@ module _ (script : Script) (start : Tree) (firsts : ServerId → ℕ) (real : (v
             let d = u_due.answers.claim_now host may.moves may.claim
             (taken_admitting (λ before x. TakesFrom before x host may.moves (Reclaim may.claim))
             (took_takes host may.moves (Reclaim may.claim)) k.0 u S may.took) fresh live_now
-            (λ o j up h. (let g = may.waited o j up h in (
+            (λ o j up h. (let g = may.waited o j up (here_later (appended (admitting k.0) (after_deciding u S))
+            (admitting_put k.0 (after_deciding u S) (deciding_put u.applied caused none_moved (cause_put u.cause S put)))
+            o.fileset o.moves h) in (
               g.0,
               subst (λ (fs : FilesetId). TookOf v caused host fs (GiveBack g.0)) g.2
                   (taken_admitting (λ before x. TakesOf v before x host g.0.fid.fileset (GiveBack g.0))
@@ -480,7 +499,7 @@ module _ (script : Script) (start : Tree) (firsts : ServerId → ℕ) (real : (v
         → f.step.cause ≡ Came w → w.server ≡ home g.fid.fileset
         → w.epoch ≡ epoch_at (own f.before) (home g.fid.fileset) → w.body ≡ Gone (number_of g)
         → (k : Give) × TookOf v (acts run) host k.fid.fileset (GiveBack k) × (number_of k ≡ number_of g)
-    gone_taken g at_v ends f w cause server epoch_is body = (k.0, took_here v host k.1 k.0 (acts run) stay at_end, k.3)
+    gone_taken g at_v ends f w cause server epoch_is body = (k.0, took_here v host k.1 k.0 (acts run) ((all [] run refl).at v).served.put stay at_end, k.3)
       where
         whole : appended (f.step ∷ f.later_on) f.before ≡ run
         whole = f.at.whole
@@ -545,6 +564,7 @@ module _ (script : Script) (start : Tree) (firsts : ServerId → ℕ) (real : (v
         stay : first_stay k.0.fid.fileset ≡ record { server = v; moves = k.1 }
         stay =
             let whole_run = all [] run refl in
+            stay_first (own run) k.0.fid.fileset v k.1
             ((whole_run.alone host).said_made k.0 v (epoch (acts run)) k.1
             (((whole_run.at v).link host).took k.1 (GiveBack k.0) at_end)).1
 
@@ -563,7 +583,9 @@ module _ (script : Script) (start : Tree) (firsts : ServerId → ℕ) (real : (v
         fileset = ap (λ (y : AppliedGive). y.fileset) out.2
 
         at_v : home g.fid.fileset ≡ v
-        at_v = ap home fileset ∙ ap (λ (y : Stay). y.server) at
+        at_v =
+            ap home fileset
+            ∙ ap (λ (y : Stay). y.server) (here_is v (acts run) o.fileset o.moves ((all [] run refl).at v).served.put at)
 
         made : Made (own run) g
         made =
@@ -592,11 +614,12 @@ module _ (script : Script) (start : Tree) (firsts : ServerId → ℕ) (real : (v
               (answered f u answer w cause server epoch_is moves body among)
         ]
           where
-            applied_at : (u : ServerId) (T : List Doing) → IsApplied u T host (number_of g)
+            applied_at : (u : ServerId) (T : List Doing) → StaysPut T → IsApplied u T host (number_of g)
                 → (n : ℕ) × (first_stay g.fid.fileset ≡ record { server = u; moves = n })
-            applied_at u [] x = elim x [ ]
-            applied_at u (a ∷ T) (inl x) = let t = x.1 in (t.0, t.1)
-            applied_at u (a ∷ T) (inr x) = applied_at u T x
+            applied_at u [] put x = elim x [ ]
+            applied_at u (a ∷ T) put (inl x) =
+                let t = x.1 in (t.0, here_is u T g.fid.fileset t.0 (λ o. put (inr o)) t.1)
+            applied_at u (a ∷ T) put (inr x) = applied_at u T (λ o. put (inr o)) x
 
             -- a Reclaimed that names it is another server's, or answers the claim
             answered : (f : Learnt g) (u : ServerId) (answer : ReclaimedOf) (w : Message) → f.step.cause ≡ Came w
@@ -628,6 +651,7 @@ module _ (script : Script) (start : Tree) (firsts : ServerId → ℕ) (real : (v
                 is_v : u ≡ v
                 is_v =
                     let k = applied_at u (doings_of (firsts u) u f.before)
+                    ((all (f.step ∷ f.later_on) f.before whole).at u).served.put
                     (((all (f.step ∷ f.later_on) f.before whole).at u).served.reclaimed host w.epoch w.moves answer
                     (number_of g) sent among) in
                     sym (ap (λ (y : Stay). y.server) k.1) ∙ at_v

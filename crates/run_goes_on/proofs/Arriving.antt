@@ -36,6 +36,8 @@ use Rattle.run_goes_on.proofs.Posted.{comes_of}
 use Rattle.run_goes_on.proofs.Staying.{SendsIt, WasSent, for_itself, goes_there, host_resends, unanswered_back}
 use Rattle.run_goes_on.proofs.Staying.{was_sent}
 use Rattle.run_goes_on.specs.Rest.{AllIsOver, IsStopped, IsTakenIn, LapsesIn, NoneIsHeld}
+use Rattle.run_tokens.proofs.Ships.{once_shipped}
+use Rattle.run_rules.specs.Doings.{after_sending}
 use Rattle.run_goes_on.specs.Waiting.{WhatWaitsHasCome}
 
 -- what a server's doings once had they have after a step
@@ -46,15 +48,15 @@ cause_on P Flushed S o = inr o
 cause_on P (Line line) S o = o
 cause_on P Lapse S o = o
 cause_on P Evict S o = o
-cause_on P (Freight freight) S o = o
+cause_on P (Freight freight) S o = inr o
 cause_on P End S o = o
 
 pub from_cause : (P : List Doing → Doing → Type 0) (S : List Doing) (s : Step) → Once P (after_cause s.cause S)
     → Once P (after_step s S)
 from_cause P S s o =
-    inr (once_on P (sending s.sent) (after_admitting s S)
+    inr (once_shipped P s.shipped (after_sending s S) (once_on P (sending s.sent) (after_admitting s S)
     (once_on P (admitting s.admitted) (after_deciding s S)
-    (once_on P (deciding s.applied) (after_cause s.cause S) o)))
+    (once_on P (deciding s.applied) (after_cause s.cause S) o))))
 
 pub step_on : (P : List Doing → Doing → Type 0) (S : List Doing) (s : Step) → Once P S → Once P (after_step s S)
 step_on P S s o = from_cause P S s (cause_on P s.cause S o)

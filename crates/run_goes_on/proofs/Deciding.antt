@@ -21,9 +21,11 @@ use Rattle.message_types.specs.declared.asking.Change.{Change as ChangeOf}
 use Rattle.message_types.specs.declared.asking.Fetch.{Fetch as FetchOf}
 use Rattle.message_types.specs.declared.message.Body.TheVariants.{Fetch}
 use Rattle.message_types.specs.declared.message.Message.{Message}
+use Rattle.run_rules.specs.Doings.{after_shipping}
 use Rattle.run_rules.specs.Doings.{Doing, GivesUp, GoesAway, Granted, Listed, NoGrace, Pinned, admitting}
 use Rattle.run_rules.specs.Doings.{after_admitting, after_cause, after_deciding, after_sending, after_step, deciding}
 use Rattle.run_rules.specs.Doings.{doings_of, epoch, sending}
+use Rattle.run_rules.specs.Doings.Doing.{Gets, Puts}
 use Rattle.run_rules.specs.Doings.Doing.{Admits, BeginsEpoch, Flushes, MakesWant, Reserves, Sent, Took, WritesDown}
 use Rattle.run_rules.specs.HostAsks.{FetchNeeds}
 use Rattle.run_rules.specs.HostAsks.FetchNeeds.{OfDirectory, OfFile, OfUnknown}
@@ -55,6 +57,8 @@ use Rattle.run_tokens.proofs.Law.{always}
 use Rattle.run_tokens.proofs.TokenRun.{token_run}
 use Rattle.run_tokens.proofs.Words.{acts_after, if_server}
 use Rattle.run_goes_on.proofs.Positions.{own_run}
+use Rattle.run_tokens.proofs.TokenRun.{works_none}
+use Rattle.run_tokens.proofs.Ships.{ships_keep}
 use Rattle.run_goes_on.proofs.Requests.{decides_not}
 
 -- # What wants need
@@ -97,7 +101,7 @@ causes Flushed S old = on S Flushes (λ w e. cc) old
 causes (Line line) S old = old
 causes Lapse S old = old
 causes Evict S old = old
-causes (Freight freight) S old = old
+causes (Freight freight) S old = on S (Gets freight.server freight.moves freight.body) (λ w e. cc) old
 causes End S old = old
 
 admits : (cs : List Admission) (S : List Doing) → AllNeed S → AllNeed (appended (admitting cs) S)
@@ -112,11 +116,13 @@ sends (m ∷ ms) S old =
 need_step : (script : Script) (start : Tree) (v : ServerId) (steps : List Step) (S : List Doing) (s : Step)
     → ServerMay script start v steps S s → AllNeed S → AllNeed (after_step s S)
 need_step script start v steps S s m old =
-    on (after_sending s S) (Reserves s.reserved) (λ w e. cc)
+    on (after_shipping s S) (Reserves s.reserved) (λ w e. cc)
+    (ships_keep AllNeed (λ T to n b was. on T (Puts to n b) (λ w e. cc) was) s.shipped (after_sending s S)
     (sends s.sent (after_admitting s S) (admits s.admitted (after_deciding s S)
-    (subst AllNeed (sym (same_decisions s.applied (after_cause s.cause S)))
+    (subst AllNeed (sym (same_decisions s.applied (after_cause s.cause S)
+    (works_none v (filesets_kept start v steps) S s m.works.applies)))
     (decides v S s (decisions s.applied) (filesets_through s.cause (by_cause s.applied) (filesets_kept start v steps))
-    (after_cause s.cause S) m.works.decides (causes s.cause S old)))))
+    (after_cause s.cause S) m.works.decides (causes s.cause S old))))))
 
 -- # No pinned token is in the way of a Fetch
 

@@ -14,10 +14,13 @@ use Rattle.message_types.specs.declared.message.Body.TheVariants.{Done, Grant, H
 use Rattle.message_types.specs.declared.message.Message.{Message}
 use Rattle.message_types.specs.declared.telling.Bring.{Bring}
 use Rattle.message_types.specs.declared.telling.Done.{Done as DoneOf}
+use Rattle.run_rules.specs.Doings.{after_shipping}
 use Rattle.run_rules.specs.Doings.{Doing, HasReclaimed, InEpoch, IsNewEpoch, Issued, Issues, Listed, ListedNow}
 use Rattle.run_rules.specs.Doings.{SentTo, StayStamp, TookNow, admitting, after_admitting, after_cause, after_deciding}
 use Rattle.run_rules.specs.Doings.{after_sending, after_step, deciding, doings_of, epoch, sending}
-use Rattle.run_rules.specs.Doings.Doing.{Admits, BeginsEpoch, Flushes, MakesWant, Reserves, Sent, Took, WritesDown}
+use Rattle.run_rules.specs.Doings.Doing.{Gets, Puts}
+use Rattle.run_rules.specs.Doings.Doing.{Admits, BeginsEpoch, Flushes, MakesWant, Moves, Reserves, Sent, Took}
+use Rattle.run_rules.specs.Doings.Doing.{WritesDown}
 use Rattle.run_rules.specs.Messages.{Said}
 use Rattle.run_rules.specs.Past.{EachInTurn, In, Once, appended}
 use Rattle.run_rules.specs.Runs.{CameToServer, StepMeets, StepsMeet}
@@ -31,6 +34,10 @@ use Rattle.run_rules.specs.declared.step.Cause.{Cause}
 use Rattle.run_rules.specs.declared.step.Cause.TheVariants.{End, Evict, Flushed, Freight, Lapse}
 use Rattle.run_rules.specs.declared.step.Cause.TheVariants.{Line, Message as Came, Restart}
 use Rattle.run_rules.specs.declared.step.Step.{Step}
+use Rattle.run_tokens.specs.Unmoved.{StaysPut}
+use Rattle.run_tokens.proofs.Unmoved.{put_on}
+use Rattle.run_tokens.proofs.Ships.{ships_keep}
+use Rattle.run_tokens.proofs.Ships.{epoch_shipping, once_ships}
 use Rattle.run_tokens.proofs.Words.{acts_after, if_host, if_server, own_after}
 
 -- # Epochs
@@ -44,6 +51,9 @@ epoch_on (WritesDown w) S none = refl
 epoch_on (Admits h ts) S none = refl
 epoch_on (Sent h e n b) S none = refl
 epoch_on (Reserves ts) S none = refl
+epoch_on (Moves move) S none = refl
+epoch_on (Gets from n b) S none = refl
+epoch_on (Puts to n b) S none = refl
 
 epoch_deciding : (xs : List Applied) (S : List Doing) → epoch (appended (deciding xs) S) ≡ epoch S
 epoch_deciding [] S = refl
@@ -52,7 +62,7 @@ epoch_deciding (IsDone w ∷ xs) S = epoch_deciding xs (WritesDown w ∷ S)
 epoch_deciding (Replied x ∷ xs) S = epoch_deciding xs S
 epoch_deciding (Stored h f ss n ∷ xs) S = epoch_deciding xs S
 epoch_deciding (IsDown h ∷ xs) S = epoch_deciding xs S
-epoch_deciding (IsMoved move ∷ xs) S = epoch_deciding xs S
+epoch_deciding (IsMoved move ∷ xs) S = epoch_deciding xs (Moves move ∷ S)
 
 epoch_admitting : (cs : List Admission) (S : List Doing) → epoch (appended (admitting cs) S) ≡ epoch S
 epoch_admitting [] S = refl
@@ -67,7 +77,9 @@ epoch_before_sending s S =
     epoch_admitting s.admitted (after_deciding s S) ∙ epoch_deciding s.applied (after_cause s.cause S)
 
 pub epoch_step : (s : Step) (S : List Doing) → epoch (after_step s S) ≡ epoch (after_cause s.cause S)
-epoch_step s S = epoch_sending s.sent (after_admitting s S) ∙ epoch_before_sending s S
+epoch_step s S =
+    epoch_shipping s.shipped (after_sending s S)
+    ∙ (epoch_sending s.sent (after_admitting s S) ∙ epoch_before_sending s S)
 
 epoch_caused : (c : Cause) (S : List Doing) → epoch S ≤ epoch (after_cause c S)
 epoch_caused (Came m) S = omega arith
@@ -93,22 +105,29 @@ epoch_after_step s S =
 sent_in_turn : (v : ServerId) (ms : List Message) (S : List Doing) → EachInTurn (ServerTokens v) (sending ms) S
     → (m : Message) → In m ms
     → (mid : List Doing) × ServerTokens v mid (Sent m.host m.epoch m.moves m.body) × (epoch mid ≡ epoch S)
+    × (StaysPut S → StaysPut mid)
 sent_in_turn v [] S may m i = elim i [ ]
 sent_in_turn v (x ∷ ms) S may m (inl q) = (
   S,
   subst (λ (y : Message). ServerTokens v S (Sent y.host y.epoch y.moves y.body)) (sym q) may.0,
   refl,
+  λ put. put,
 )
 sent_in_turn v (x ∷ ms) S may m (inr i) =
-    let k = sent_in_turn v ms (Sent x.host x.epoch x.moves x.body ∷ S) may.1 m i in (k.0, k.1, k.2)
+    let k = sent_in_turn v ms (Sent x.host x.epoch x.moves x.body ∷ S) may.1 m i in (
+      k.0,
+      k.1,
+      k.2,
+      λ put. k.3 (put_on (Sent x.host x.epoch x.moves x.body) S (λ p. let q = p.1 in cc) put),
+    )
 
 -- it carries the server's epoch, once the step has taken its cause
 pub sent_so : (v : ServerId) (s : Step) (S : List Doing) → ServerStep v S s → (m : Message) → In m s.sent
     → (mid : List Doing) × ServerTokens v mid (Sent m.host m.epoch m.moves m.body)
-    × (m.epoch ≡ epoch (after_cause s.cause S))
+    × (m.epoch ≡ epoch (after_cause s.cause S)) × (StaysPut (after_admitting s S) → StaysPut mid)
 sent_so v s S may m i =
     let k = sent_in_turn v s.sent (after_admitting s S) may.sends m i in
-    (k.0, k.1, k.1.epochs m.host m.epoch m.moves m.body refl ∙ (k.2 ∙ epoch_before_sending s S))
+    (k.0, k.1, k.1.epochs m.host m.epoch m.moves m.body refl ∙ (k.2 ∙ epoch_before_sending s S), k.3)
 
 -- # The list of hosts, tokens and claims
 
@@ -215,7 +234,7 @@ module _ (v : ServerId) (h : HostId) where
   causes (Line line) S old = old
   causes Lapse S old = old
   causes Evict S old = old
-  causes (Freight freight) S old = old
+  causes (Freight freight) S old = on (Gets freight.server freight.moves freight.body) S (λ k e n b q. absurd (cc)) (λ k ts q. absurd (cc)) old
   causes End S old = old
 
   decides : (xs : List Applied) (S : List Doing) → Knows S → Knows (appended (deciding xs) S)
@@ -227,7 +246,8 @@ module _ (v : ServerId) (h : HostId) where
   decides (Replied x ∷ xs) S old = decides xs S old
   decides (Stored k f ss n ∷ xs) S old = decides xs S old
   decides (IsDown k ∷ xs) S old = decides xs S old
-  decides (IsMoved move ∷ xs) S old = decides xs S old
+  decides (IsMoved move ∷ xs) S old =
+      decides xs (Moves move ∷ S) (on (Moves move) S (λ k e n b q. absurd (cc)) (λ k ts q. absurd (cc)) old)
 
   admits_all : (cs : List Admission) (S : List Doing) → EachInTurn (ServerTokens v) (admitting cs) S → Knows S
       → Knows (appended (admitting cs) S)
@@ -246,10 +266,11 @@ module _ (v : ServerId) (h : HostId) where
 
   knows_step : (s : Step) (S : List Doing) → ServerStep v S s → 0 < epoch S → Knows S → Knows (after_step s S)
   knows_step s S may above old =
-      on (Reserves s.reserved) (after_sending s S) (λ k e n b q. absurd (cc)) (λ k ts q. absurd (cc))
-      (sends_all s.sent (after_admitting s S) may.sends up
+      on (Reserves s.reserved) (after_shipping s S) (λ k e n b q. absurd (cc)) (λ k ts q. absurd (cc))
+      (ships_keep Knows (λ T to n b was. on (Puts to n b) T (λ k e n b q. absurd (cc)) (λ k ts q. absurd (cc)) was) s.shipped
+      (after_sending s S) (sends_all s.sent (after_admitting s S) may.sends up
       (admits_all s.admitted (after_deciding s S) may.admits
-      (decides s.applied (after_cause s.cause S) (causes s.cause S old))))
+      (decides s.applied (after_cause s.cause S) (causes s.cause S old)))))
     where
       up : 0 < epoch (after_admitting s S)
       up =
@@ -301,7 +322,10 @@ module _ (h : HostId) (e n : ℕ) (b : Body) where
   took_deciding (Replied x ∷ xs) S o = took_deciding xs S o
   took_deciding (Stored k f ss m ∷ xs) S o = took_deciding xs S o
   took_deciding (IsDown k ∷ xs) S o = took_deciding xs S o
-  took_deciding (IsMoved move ∷ xs) S o = took_deciding xs S o
+  took_deciding (IsMoved move ∷ xs) S o = elim (took_deciding xs (Moves move ∷ S) o) [
+    | inl q ↦ absurd (let z : Moves move ≡ Took h e n b = q in cc)
+    | inr k ↦ k
+  ]
 
   pub took_admitting : (cs : List Admission) (S : List Doing) → TookIt (appended (admitting cs) S) h e n b
       → TookIt S h e n b
@@ -336,7 +360,8 @@ module _ (h : HostId) (e n : ℕ) (b : Body) where
   took_cause v past s S came (Line line) q o = inl o
   took_cause v past s S came Lapse q o = inl o
   took_cause v past s S came Evict q o = inl o
-  took_cause v past s S came (Freight freight) q o = inl o
+  took_cause v past s S came (Freight freight) q (inl t) = absurd (let z : Gets freight.server freight.moves freight.body ≡ Took h e n b = t in cc)
+  took_cause v past s S came (Freight freight) q (inr o) = inl o
   took_cause v past s S came End q o = inl o
 
   took_step : (v : ServerId) (past : List Step) (s : Step) (S : List Doing) → CameToServer v past s
@@ -345,7 +370,8 @@ module _ (h : HostId) (e n : ℕ) (b : Body) where
   took_step v past s S came (inr o) =
       took_cause v past s S came s.cause refl
       (took_deciding s.applied (after_cause s.cause S)
-      (took_admitting s.admitted (after_deciding s S) (took_sending s.sent (after_admitting s S) o)))
+      (took_admitting s.admitted (after_deciding s S) (took_sending s.sent (after_admitting s S)
+      (once_ships (λ before a. a ≡ Took h e n b) (λ T to k c q. cc) s.shipped (after_sending s S) o))))
 
 module _ (script : Script) (start : Tree) (firsts : ServerId → ℕ) (real : (v : ServerId) → 0 < firsts v) where
   above_step : (v : ServerId) (past : List Step) (s : Step) (k : Node) → 0 < epoch (doings_of (firsts v) v past)

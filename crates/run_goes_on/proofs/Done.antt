@@ -36,7 +36,7 @@ module _ (v : ServerId) where
       go (Line line) is = inr (λ k. (let z : Line line ≡ Came k.2.0 = sym is ∙ k.2.1 in cc))
       go Lapse is = inr (λ k. (let z : Lapse ≡ Came k.2.0 = sym is ∙ k.2.1 in cc))
       go Evict is = inr (λ k. (let z : Evict ≡ Came k.2.0 = sym is ∙ k.2.1 in cc))
-      go (Freight freight) is = inr (λ k. (let z : Freight freight ≡ Came k.2.0 = sym is ∙ k.2.1 in cc))
+      go (Freight freight) is = inr (λ k. (let z : (Freight freight) ≡ Came k.2.0 = sym is ∙ k.2.1 in cc))
       go End is = inr (λ k. (let z : End ≡ Came k.2.0 = sym is ∙ k.2.1 in cc))
 
   has_bye : (A : List Step) → HasBye A v ⊎ (HasBye A v → ⊥)

@@ -37,7 +37,8 @@ use Rattle.run_rules.specs.declared.step.Step.{Step}
 use Rattle.run_tokens.proofs.Invariant.{Alone}
 use Rattle.run_tokens.proofs.Law.{Whole, always}
 use Rattle.run_tokens.proofs.TokenRun.{token_run}
-use Rattle.run_tokens.proofs.Words.{if_host, made_left, own_after}
+use Rattle.run_tokens.proofs.Unmoved.{here_was}
+use Rattle.run_tokens.proofs.Words.{if_host, made_left, own_after, stay_first}
 use Rattle.run_goes_on.proofs.Arriving.{due_at, due_of, found, from_one, host_sends, meets_at, whole_at}
 use Rattle.run_goes_on.proofs.Calls.{outstanding_of}
 use Rattle.run_goes_on.proofs.Doings.{Knows, epoch_after_cause, heard, knows}
@@ -48,6 +49,12 @@ use Rattle.run_goes_on.proofs.Telling.{After, above_before, after, below, decide
 use Rattle.run_goes_on.proofs.Telling.{no_lapse, server_due, server_from, server_may, server_sends, tells_none}
 use Rattle.run_goes_on.proofs.Telling.{whole_cut}
 use Rattle.run_goes_on.specs.Rest.{AllIsOver, IsTakenIn, LapsesIn, NoneIsHeld}
+use Rattle.run_tokens.specs.Unmoved.{StaysPut}
+use Rattle.run_rules.specs.Doings.{after_admitting}
+use Rattle.run_tokens.proofs.TokenRun.{works_none}
+use Rattle.run_tokens.proofs.Unmoved.{admitted_put}
+use Rattle.run_tokens.proofs.Words.{never_moved}
+use Rattle.run_rules.specs.Kept.{filesets_kept}
 use Rattle.run_goes_on.specs.Waiting.{GivesAreKnown}
 
 -- # A host that has said Bye makes no give-back any more
@@ -293,6 +300,7 @@ module _ (script : Script) (start : Tree) (firsts : ServerId → ℕ) (real : (v
 
             sent : (mid : List Doing) × ServerTokens v mid (Sent m.host m.epoch m.moves m.body)
                 × (m.epoch ≡ epoch (after_cause t.cause (acts p)))
+                × (StaysPut (after_admitting t (acts p)) → StaysPut mid)
             sent =
                 sent_so v t (acts p)
                 (server_may script start firsts real run meets due over none host live v l p t a.whole at).tokens m i
@@ -308,7 +316,11 @@ module _ (script : Script) (start : Tree) (firsts : ServerId → ℕ) (real : (v
             moves =
                 let k = (sent.1.gones m.host m.epoch m.moves (number_of g)
                 (λ j. Sent m.host m.epoch m.moves (body j))).0 in
-                sym (ap (λ (y : Stay). y.moves) k)
+                let still =
+                works_none v (filesets_kept start v (steps_of_server v p)) (acts p) t
+                (server_may script start firsts real run meets due over none host live v l p t a.whole at).works.applies in
+                let put = admitted_put t (acts p) still ((all (t ∷ l) p a.whole).at v).served.put in
+                sym (never_moved v sent.0 g.fid.fileset m.moves (sent.3 put) k)
 
     -- and it can't have taken the give-back
     never : ⊥
@@ -324,7 +336,7 @@ module _ (script : Script) (start : Tree) (firsts : ServerId → ℕ) (real : (v
         may = (subst (λ (k : Node). StepMeets script start firsts k past s) node (met later (s ∷ past) e).1.0).0
 
         stays : first_stay g.fid.fileset ≡ record { server = to; moves = mv }
-        stays = (may.tokens.gives g to ep mv sends).1
+        stays = stay_first (s ∷ own past) g.fid.fileset to mv (may.tokens.gives g to ep mv sends).1
 
         to_v : to ≡ v
         to_v = sym (ap (λ (y : Stay). y.server) stays)
@@ -373,8 +385,9 @@ module _ (script : Script) (start : Tree) (firsts : ServerId → ℕ) (real : (v
 
             is_here : Here v (acts c.before) g.fid.fileset m.moves
             is_here =
-                subst (λ (y : ServerId × ℕ). first_stay g.fid.fileset ≡ record { server = y.0; moves = y.1 })
-                (λ i. (to_v i, sym sends.4 i)) stays
+                here_was v (acts c.before) g.fid.fileset m.moves ((all (t ∷ c.after) c.before whole).at v).served.put
+                (subst (λ (y : ServerId × ℕ). first_stay g.fid.fileset ≡ record { server = y.0; moves = y.1 })
+                (λ i. (to_v i, sym sends.4 i)) stays)
 
         taken_none : {t : Step} → Cut (s ∷ past) later t → t.cause ≡ Came m → ⊥
         taken_none {t = t} c cause = go t.node refl (met c.after (t ∷ c.before) (whole_cut start_at c)).1.0

@@ -9,10 +9,13 @@ use Rattle.message_types.specs.declared.message.Body.TheVariants.{Done, Grant, R
 use Rattle.message_types.specs.declared.message.Message.{Message}
 use Rattle.message_types.specs.declared.telling.Bring.{Bring}
 use Rattle.message_types.specs.declared.tokens.Revoke.{Revoke as RevokeOf}
+use Rattle.run_rules.specs.Doings.{after_shipping}
 use Rattle.run_rules.specs.Doings.{Doing, Enlists, Granted, HasReclaimed, IsNewlyGranted, Issued, Issues, Pinned}
 use Rattle.run_rules.specs.Doings.{StayStamp, admitting, after_admitting, after_cause, after_deciding, after_sending}
 use Rattle.run_rules.specs.Doings.{after_step, deciding, epoch, sending}
-use Rattle.run_rules.specs.Doings.Doing.{Admits, BeginsEpoch, Flushes, MakesWant, Reserves, Sent, Took, WritesDown}
+use Rattle.run_rules.specs.Doings.Doing.{Gets, Puts}
+use Rattle.run_rules.specs.Doings.Doing.{Admits, BeginsEpoch, Flushes, MakesWant, Moves, Reserves, Sent, Took}
+use Rattle.run_rules.specs.Doings.Doing.{WritesDown}
 use Rattle.run_rules.specs.Past.{EachInTurn, In, appended}
 use Rattle.run_rules.specs.ServerTokens.{ServerStep, ServerTokens}
 use Rattle.run_rules.specs.declared.applied.Admission.{Admission}
@@ -24,6 +27,7 @@ use Rattle.run_rules.specs.declared.step.Cause.TheVariants.{End, Evict, Flushed,
 use Rattle.run_rules.specs.declared.step.Cause.TheVariants.{Line, Message as Came, Restart}
 use Rattle.run_rules.specs.declared.step.Step.{Step}
 use Rattle.run_goes_on.proofs.Grown.{in_admitting, in_deciding}
+use Rattle.run_tokens.proofs.Ships.{ships_back, ships_keep}
 use Rattle.run_goes_on.proofs.Positions.{once_on}
 
 abbrev Reclaims : HostId → List Doing → Doing → Type 0
@@ -79,7 +83,8 @@ module _ (v : ServerId) (t : Token) (x : StayStamp) where
   keep_writes (Replied y ∷ xs) S T k = keep_writes xs S T k
   keep_writes (Stored h f ss n ∷ xs) S T k = keep_writes xs S T k
   keep_writes (IsDown h ∷ xs) S T k = keep_writes xs S T k
-  keep_writes (IsMoved move ∷ xs) S T k = keep_writes xs S T k
+  keep_writes (IsMoved move ∷ xs) S T k =
+      keep_plain S T (Moves move) ((λ h e n b q. cc), (λ h ts q. cc)) (keep_writes xs (Moves move ∷ S) T k)
 
   keep_admits : (cs : List Admission) (S T : List Doing) → EachInTurn (ServerTokens v) (admitting cs) S
       → HasReclaimed S t.host → Issued S t x → Keeps (appended (admitting cs) S) T → Keeps S T
@@ -106,7 +111,9 @@ module _ (v : ServerId) (t : Token) (x : StayStamp) where
       (keep_sends s.sent (after_admitting s S) T may.sends
       (in_admitting (Reclaims t.host) s.admitted (after_deciding s S) decided)
       (once_on (λ before a. Issues a t x) (admitting s.admitted) (after_deciding s S) issued)
-      (keep_plain (after_sending s S) T (Reserves s.reserved) ((λ h e n b q. cc), (λ h ts q. cc)) k)))
+      (ships_back (λ U. Keeps U T) (λ U to n b was. keep_plain U T (Puts to n b) ((λ h e n b q. cc), (λ h ts q. cc)) was)
+      s.shipped (after_sending s S)
+      (keep_plain (after_shipping s S) T (Reserves s.reserved) ((λ h e n b q. cc), (λ h ts q. cc)) k))))
     where
       decided : HasReclaimed (after_deciding s S) t.host
       decided = in_deciding (Reclaims t.host) s.applied (after_cause s.cause S) r
@@ -124,7 +131,7 @@ module _ (v : ServerId) (t : Token) (x : StayStamp) where
   keep_cause (Line line) S T k = k
   keep_cause Lapse S T k = k
   keep_cause Evict S T k = k
-  keep_cause (Freight freight) S T k = k
+  keep_cause (Freight freight) S T k = keep_plain S T (Gets freight.server freight.moves freight.body) ((λ h e n b q. cc), (λ h ts q. cc)) k
   keep_cause End S T k = k
 
 -- # A Revoke names granted tokens, which are granted after its step
@@ -164,7 +171,7 @@ module _ (v : ServerId) where
         k.1,
         k.2,
         inr (
-          k.3,
+          ships_keep (λ T. Granted v T k.0) (λ T to n b g. put_keeps T to n b k.0 g) s.shipped (after_sending s S) k.3,
           (λ n. (let z : Reserves s.reserved ≡ BeginsEpoch n.0 = n.1 in cc)),
           (λ gives. elim gives [ inl g ↦ not_took g.1.2.0 | inr g ↦ not_took g.1.2.0 ]),
           (λ goes. elim goes [ inl g ↦ not_took g.2 | inr g ↦ not_took g.0.1 ]),
@@ -173,3 +180,15 @@ module _ (v : ServerId) where
     where
       not_took : {h : HostId} {e n : ℕ} {b : Body} → Reserves s.reserved ≡ Took h e n b → ⊥
       not_took q = cc
+
+      not_put : {to : ServerId} {k : ℕ} {c : Body} {h : HostId} {e n : ℕ} {b : Body} → Puts to k c ≡ Took h e n b → ⊥
+      not_put q = cc
+
+      put_keeps : (T : List Doing) (to : ServerId) (n : ℕ) (b : Body) (u : Token) → Granted v T u
+          → Granted v (Puts to n b ∷ T) u
+      put_keeps T to n b u g = inr (
+        g,
+        (λ z. (let y : Puts to n b ≡ BeginsEpoch z.0 = z.1 in cc)),
+        (λ gives. elim gives [ inl x ↦ not_put x.1.2.0 | inr x ↦ not_put x.1.2.0 ]),
+        (λ goes. elim goes [ inl x ↦ not_put x.2 | inr x ↦ not_put x.0.1 ]),
+      )

@@ -8,11 +8,14 @@ use Rattle.token_types.specs.declared.token.Token.{Token}
 use Rattle.message_types.specs.declared.message.Body.{Body}
 use Rattle.message_types.specs.declared.message.Body.TheVariants.{Hello}
 use Rattle.message_types.specs.declared.message.Message.{Message}
+use Rattle.run_rules.specs.Doings.{after_shipping}
 use Rattle.run_rules.specs.Doings.{Doing, Enlists, HasReclaimed, Hears, InEpoch, Listed, ListedNow, SentTo}
 use Rattle.run_rules.specs.Doings.{admitting, after_admitting}
 use Rattle.run_rules.specs.Doings.{after_cause, after_deciding, after_sending, after_step, deciding, doings_of, epoch}
 use Rattle.run_rules.specs.Doings.{sending}
-use Rattle.run_rules.specs.Doings.Doing.{Admits, BeginsEpoch, Flushes, MakesWant, Reserves, Sent, Took, WritesDown}
+use Rattle.run_rules.specs.Doings.Doing.{Gets, Puts}
+use Rattle.run_rules.specs.Doings.Doing.{Admits, BeginsEpoch, Flushes, MakesWant, Moves, Reserves, Sent, Took}
+use Rattle.run_rules.specs.Doings.Doing.{WritesDown}
 use Rattle.run_rules.specs.Past.{EachInTurn, In, Once, appended}
 use Rattle.run_rules.specs.ServerTokens.{MayAdmit, ServerTokens}
 use Rattle.run_rules.specs.declared.applied.Admission.{Admission}
@@ -27,6 +30,9 @@ use Rattle.run_rules.specs.declared.step.Cause.TheVariants.{Line, Message as Cam
 use Rattle.run_rules.specs.declared.step.Step.{Step}
 use Rattle.run_tokens.proofs.Words.{acts_after, if_server}
 use Rattle.run_goes_on.proofs.Doings.{epoch_after_cause, epoch_after_step, epoch_on, epoch_step}
+use Rattle.run_rules.specs.declared.applied.Move.{Move}
+use Rattle.run_rules.specs.Doings.{shipping}
+use Rattle.run_tokens.proofs.Ships.{once_ships, ships_back, since_shipped, since_ships}
 use Rattle.run_goes_on.proofs.Positions.{doings_on, server_doings}
 
 -- # What each doing leaves so, a step leaves so
@@ -42,14 +48,14 @@ module _ (Q : List Doing → Type 0) (one : (S : List Doing) (a : Doing) → Q S
   cause_each (Line line) S q = q
   cause_each Lapse S q = q
   cause_each Evict S q = q
-  cause_each (Freight freight) S q = q
+  cause_each (Freight freight) S q = one S (Gets freight.server freight.moves freight.body) q
   cause_each End S q = q
 
   pub caused_on : (s : Step) (S : List Doing) → Q (after_cause s.cause S) → Q (after_step s S)
   caused_on s S q =
-      one (after_sending s S) (Reserves s.reserved)
-      (all_on (sending s.sent) (after_admitting s S)
-      (all_on (admitting s.admitted) (after_deciding s S) (all_on (deciding s.applied) (after_cause s.cause S) q)))
+      one (after_shipping s S) (Reserves s.reserved)
+      (all_on (shipping s.shipped) (after_sending s S) (all_on (sending s.sent) (after_admitting s S)
+      (all_on (admitting s.admitted) (after_deciding s S) (all_on (deciding s.applied) (after_cause s.cause S) q))))
 
   pub each_on : (s : Step) (S : List Doing) → Q S → Q (after_step s S)
   each_on s S q = caused_on s S (cause_each s.cause S q)
@@ -90,7 +96,8 @@ module _ (P : List Doing → Doing → Type 0) where
   in_deciding (Replied y ∷ xs) S x = in_deciding xs S x
   in_deciding (Stored h f ss n ∷ xs) S x = in_deciding xs S x
   in_deciding (IsDown h ∷ xs) S x = in_deciding xs S x
-  in_deciding (IsMoved move ∷ xs) S x = in_deciding xs S x
+  in_deciding (IsMoved move ∷ xs) S x =
+      in_deciding xs (Moves move ∷ S) (inr (x, λ k. (let z : Moves move ≡ BeginsEpoch k.0 = k.1 in cc)))
 
   pub in_admitting : (cs : List Admission) (S : List Doing) → InEpoch P S → InEpoch P (appended (admitting cs) S)
   in_admitting [] S x = x
@@ -106,8 +113,8 @@ module _ (P : List Doing → Doing → Type 0) where
 
   pub in_caused : (s : Step) (S : List Doing) → InEpoch P (after_cause s.cause S) → InEpoch P (after_step s S)
   in_caused s S x = inr (
-    in_sending s.sent (after_admitting s S)
-        (in_admitting s.admitted (after_deciding s S) (in_deciding s.applied (after_cause s.cause S) x)),
+    since_shipped P s.shipped (after_sending s S) (in_sending s.sent (after_admitting s S)
+        (in_admitting s.admitted (after_deciding s S) (in_deciding s.applied (after_cause s.cause S) x))),
     λ k. (let z : Reserves s.reserved ≡ BeginsEpoch k.0 = k.1 in cc),
   )
 
@@ -121,12 +128,13 @@ module _ (P : List Doing → Doing → Type 0) where
   in_cause (Line line) S same x = x
   in_cause Lapse S same x = x
   in_cause Evict S same x = x
-  in_cause (Freight freight) S same x = x
+  in_cause (Freight freight) S same x = inr (x, λ k. (let z : Gets freight.server freight.moves freight.body ≡ BeginsEpoch k.0 = k.1 in cc))
   in_cause End S same x = x
 
   -- # What no want, no Change that is written down, makes so was so before those
   module _ (no_want : (S : List Doing) (w : Wanted) → P S (MakesWant w) → ⊥)
-      (no_write : (S : List Doing) (w : Written) → P S (WritesDown w) → ⊥) where
+      (no_write : (S : List Doing) (w : Written) → P S (WritesDown w) → ⊥)
+      (no_move : (S : List Doing) (move : Move) → P S (Moves move) → ⊥) where
     pub back_deciding : (xs : List Applied) (S : List Doing) → InEpoch P (appended (deciding xs) S) → InEpoch P S
     back_deciding [] S x = x
     back_deciding (IsWanted w ∷ xs) S x = elim (back_deciding xs (MakesWant w ∷ S) x) [
@@ -140,7 +148,10 @@ module _ (P : List Doing → Doing → Type 0) where
     back_deciding (Replied y ∷ xs) S x = back_deciding xs S x
     back_deciding (Stored h f ss n ∷ xs) S x = back_deciding xs S x
     back_deciding (IsDown h ∷ xs) S x = back_deciding xs S x
-    back_deciding (IsMoved move ∷ xs) S x = back_deciding xs S x
+    back_deciding (IsMoved move ∷ xs) S x = elim (back_deciding xs (Moves move ∷ S) x) [
+      | inl k ↦ absurd (no_move S move k)
+      | inr k ↦ k.0
+    ]
 
   -- what no admission makes so was so before those
   pub back_admitting : ((S : List Doing) (h : HostId) (ts : List Token) → P S (Admits h ts) → ⊥)
@@ -210,23 +221,31 @@ module _ (P : List Doing → Doing → Type 0) (takes : IsTaking P) where
   no_write : (S : List Doing) (w : Written) → P S (WritesDown w) → ⊥
   no_write S w x = let k = takes S (WritesDown w) x in let z : WritesDown w ≡ Took k.0 k.1 k.2 k.3 = k.4 in cc
 
+  no_move : (S : List Doing) (move : Move) → P S (Moves move) → ⊥
+  no_move S move x = let k = takes S (Moves move) x in let z : Moves move ≡ Took k.0 k.1 k.2 k.3 = k.4 in cc
+
   no_admit : (S : List Doing) (h : HostId) (ts : List Token) → P S (Admits h ts) → ⊥
   no_admit S h ts x = let k = takes S (Admits h ts) x in let z : Admits h ts ≡ Took k.0 k.1 k.2 k.3 = k.4 in cc
 
   no_send : (S : List Doing) (h : HostId) (e n : ℕ) (b : Body) → P S (Sent h e n b) → ⊥
   no_send S h e n b x = let k = takes S (Sent h e n b) x in let z : Sent h e n b ≡ Took k.0 k.1 k.2 k.3 = k.4 in cc
 
+  no_put : (S : List Doing) (to : ServerId) (n : ℕ) (b : Body) → P S (Puts to n b) → ⊥
+  no_put S to n b x = let k = takes S (Puts to n b) x in let z : Puts to n b ≡ Took k.0 k.1 k.2 k.3 = k.4 in cc
+
   pub taken_admitting : (cs : List Admission) (s : Step) (S : List Doing)
       → InEpoch P (appended (admitting cs) (after_deciding s S)) → InEpoch P (after_cause s.cause S)
   taken_admitting cs s S x =
-      back_deciding P no_want no_write s.applied (after_cause s.cause S)
+      back_deciding P no_want no_write no_move s.applied (after_cause s.cause S)
       (back_admitting P no_admit cs (after_deciding s S) x)
 
   pub taken_step : (s : Step) (S : List Doing) → InEpoch P (after_step s S) → InEpoch P (after_cause s.cause S)
   taken_step s S (inl x) =
-      let k = takes (after_sending s S) (Reserves s.reserved) x in
+      let k = takes (after_shipping s S) (Reserves s.reserved) x in
       absurd (let z : Reserves s.reserved ≡ Took k.0 k.1 k.2 k.3 = k.4 in cc)
-  taken_step s S (inr x) = taken_admitting s.admitted s S (back_sending P no_send s.sent (after_admitting s S) x.0)
+  taken_step s S (inr x) =
+      taken_admitting s.admitted s S
+      (back_sending P no_send s.sent (after_admitting s S) (since_ships P no_put s.shipped (after_sending s S) x.0))
 
 -- and what once was taken
 module _ (P : List Doing → Doing → Type 0) (takes : IsTaking P) where
@@ -243,7 +262,10 @@ module _ (P : List Doing → Doing → Type 0) (takes : IsTaking P) where
   once_deciding (Replied y ∷ xs) S x = once_deciding xs S x
   once_deciding (Stored h f ss n ∷ xs) S x = once_deciding xs S x
   once_deciding (IsDown h ∷ xs) S x = once_deciding xs S x
-  once_deciding (IsMoved move ∷ xs) S x = once_deciding xs S x
+  once_deciding (IsMoved move ∷ xs) S x = elim (once_deciding xs (Moves move ∷ S) x) [
+    | inl k ↦ absurd (no_move P takes S move k)
+    | inr k ↦ k
+  ]
 
   once_admitting : (cs : List Admission) (S : List Doing) → Once P (appended (admitting cs) S) → Once P S
   once_admitting [] S x = x
@@ -261,11 +283,12 @@ module _ (P : List Doing → Doing → Type 0) (takes : IsTaking P) where
 
   pub once_step : (s : Step) (S : List Doing) → Once P (after_step s S) → Once P (after_cause s.cause S)
   once_step s S (inl x) =
-      let k = takes (after_sending s S) (Reserves s.reserved) x in
+      let k = takes (after_shipping s S) (Reserves s.reserved) x in
       absurd (let z : Reserves s.reserved ≡ Took k.0 k.1 k.2 k.3 = k.4 in cc)
   once_step s S (inr x) =
       once_deciding s.applied (after_cause s.cause S)
-      (once_admitting s.admitted (after_deciding s S) (once_sending s.sent (after_admitting s S) x))
+      (once_admitting s.admitted (after_deciding s S) (once_sending s.sent (after_admitting s S)
+      (once_ships P (no_put P takes) s.shipped (after_sending s S) x)))
 
 -- # Who has reclaimed after a step has so once its cause was taken, or the step admits a claim of it
 enlists_hearing : (S : List Doing) (a : Doing) (h : HostId) → Enlists S a h → Hears a h Hello
@@ -284,6 +307,16 @@ module _ (h : HostId) where
   written_no S w (inl (ts, q)) = let z : WritesDown w ≡ Admits h ts = q in cc
   written_no S w (inr x) =
       let k = enlists_hearing S (WritesDown w) h x in let z : WritesDown w ≡ Took h k.0 k.1 Hello = k.2 in cc
+
+  put_no : (S : List Doing) (to : ServerId) (n : ℕ) (b : Body) → Reclaims S (Puts to n b) → ⊥
+  put_no S to n b (inl (ts, q)) = let z : Puts to n b ≡ Admits h ts = q in cc
+  put_no S to n b (inr x) =
+      let k = enlists_hearing S (Puts to n b) h x in let z : Puts to n b ≡ Took h k.0 k.1 Hello = k.2 in cc
+
+  moved_no : (S : List Doing) (move : Move) → Reclaims S (Moves move) → ⊥
+  moved_no S move (inl (ts, q)) = let z : Moves move ≡ Admits h ts = q in cc
+  moved_no S move (inr x) =
+      let k = enlists_hearing S (Moves move) h x in let z : Moves move ≡ Took h k.0 k.1 Hello = k.2 in cc
 
   sent_no : (S : List Doing) (j : HostId) (e n : ℕ) (b : Body) → Reclaims S (Sent j e n b) → ⊥
   sent_no S j e n b (inl (ts, q)) = let z : Sent j e n b ≡ Admits h ts = q in cc
@@ -306,12 +339,13 @@ module _ (h : HostId) where
       → HasReclaimed (after_cause s.cause S) h ⊎ ((c : Admission) × In c s.admitted × (c.host ≡ h))
   reclaims_step s S (inl (inl (ts, q))) = absurd (let z : Reserves s.reserved ≡ Admits h ts = q in cc)
   reclaims_step s S (inl (inr x)) =
-      let k = enlists_hearing (after_sending s S) (Reserves s.reserved) h x in
+      let k = enlists_hearing (after_shipping s S) (Reserves s.reserved) h x in
       absurd (let z : Reserves s.reserved ≡ Took h k.0 k.1 Hello = k.2 in cc)
   reclaims_step s S (inr r) =
       elim (reclaims_admitting s.admitted (after_deciding s S)
-      (back_sending Reclaims sent_no s.sent (after_admitting s S) r.0)) [
-        | inl d ↦ inl (back_deciding Reclaims wanted_no written_no s.applied (after_cause s.cause S) d)
+      (back_sending Reclaims sent_no s.sent (after_admitting s S)
+      (since_ships Reclaims put_no s.shipped (after_sending s S) r.0))) [
+        | inl d ↦ inl (back_deciding Reclaims wanted_no written_no moved_no s.applied (after_cause s.cause S) d)
         | inr k ↦ inr k
       ]
 
@@ -331,7 +365,9 @@ module _ (h : HostId) where
   reclaims_cause (Line line) S l r = r
   reclaims_cause Lapse S l r = r
   reclaims_cause Evict S l r = r
-  reclaims_cause (Freight freight) S l r = r
+  reclaims_cause (Freight freight) S l (inl (inl (ts, q))) = absurd (let z : Gets freight.server freight.moves freight.body ≡ Admits h ts = q in cc)
+  reclaims_cause (Freight freight) S l (inl (inr x)) = absurd (x.1 l)
+  reclaims_cause (Freight freight) S l (inr r) = r.0
   reclaims_cause End S l r = r
 
 -- of each admission of a step: what it may admit, after those before it
@@ -359,7 +395,10 @@ module _ (h : HostId) (e n : ℕ) (b : Body) where
   sent_deciding (Replied x ∷ xs) S o = sent_deciding xs S o
   sent_deciding (Stored k f ss m ∷ xs) S o = sent_deciding xs S o
   sent_deciding (IsDown k ∷ xs) S o = sent_deciding xs S o
-  sent_deciding (IsMoved move ∷ xs) S o = sent_deciding xs S o
+  sent_deciding (IsMoved move ∷ xs) S o = elim (sent_deciding xs (Moves move ∷ S) o) [
+    | inl q ↦ absurd (let z : Moves move ≡ Sent h e n b = q in cc)
+    | inr k ↦ k
+  ]
 
   sent_admitting : (cs : List Admission) (S : List Doing) → SentTo (appended (admitting cs) S) h e n b
       → SentTo S h e n b
@@ -394,7 +433,8 @@ module _ (h : HostId) (e n : ℕ) (b : Body) where
   sent_cause (Line line) S o = o
   sent_cause Lapse S o = o
   sent_cause Evict S o = o
-  sent_cause (Freight freight) S o = o
+  sent_cause (Freight freight) S (inl q) = absurd (let z : Gets freight.server freight.moves freight.body ≡ Sent h e n b = q in cc)
+  sent_cause (Freight freight) S (inr o) = o
   sent_cause End S o = o
 
   -- it was sent before the step, or the step sends it
@@ -402,11 +442,12 @@ module _ (h : HostId) (e n : ℕ) (b : Body) where
       → SentTo S h e n b
       ⊎ ((m : Message) × In m s.sent × (m.host ≡ h) × (m.epoch ≡ e) × (m.moves ≡ n) × (m.body ≡ b))
   sent_split s S (inl q) = absurd (let z : Reserves s.reserved ≡ Sent h e n b = q in cc)
-  sent_split s S (inr o) = elim (sent_sending s.sent (after_admitting s S) o) [
-    | inr k ↦ inr k
-    | inl k ↦ inl (sent_cause s.cause S
-        (sent_deciding s.applied (after_cause s.cause S) (sent_admitting s.admitted (after_deciding s S) k)))
-  ]
+  sent_split s S (inr o) = elim (sent_sending s.sent (after_admitting s S)
+      (once_ships (λ before a. a ≡ Sent h e n b) (λ T to k c q. cc) s.shipped (after_sending s S) o)) [
+        | inr k ↦ inr k
+        | inl k ↦ inl (sent_cause s.cause S
+            (sent_deciding s.applied (after_cause s.cause S) (sent_admitting s.admitted (after_deciding s S) k)))
+      ]
 
 -- # Who is on the list after a step was on it, or came on it in this epoch
 module _ (h : HostId) where
@@ -423,7 +464,10 @@ module _ (h : HostId) where
   listed_deciding (Replied y ∷ xs) S x = listed_deciding xs S x
   listed_deciding (Stored k f ss n ∷ xs) S x = listed_deciding xs S x
   listed_deciding (IsDown k ∷ xs) S x = listed_deciding xs S x
-  listed_deciding (IsMoved move ∷ xs) S x = listed_deciding xs S x
+  listed_deciding (IsMoved move ∷ xs) S x = elim (listed_deciding xs (Moves move ∷ S) x) [
+    | inl k ↦ (let q = k.0 in absurd (let z : Moves move ≡ Took h q.0 q.1 Hello = q.2 in cc))
+    | inr k ↦ k
+  ]
 
   pub listed_admitting : (cs : List Admission) (S : List Doing) → Listed (appended (admitting cs) S) h → Listed S h
   listed_admitting [] S x = x
@@ -451,8 +495,15 @@ module _ (h : HostId) where
   listed_cause (Line line) S k = inl k
   listed_cause Lapse S k = inl k
   listed_cause Evict S k = inl k
-  listed_cause (Freight freight) S k = inl k
+  listed_cause (Freight freight) S (inl k) = let q = k.0 in absurd (let z : Gets freight.server freight.moves freight.body ≡ Took h q.0 q.1 Hello = q.2 in cc)
+  listed_cause (Freight freight) S (inr k) = inl k
   listed_cause End S k = inl k
+
+  listed_ships : (ms : List Message) (S : List Doing) → Listed (appended (shipping ms) S) h → Listed S h
+  listed_ships = ships_back (λ T. Listed T h) (λ T to n b l. elim l [
+    | inl k ↦ (let q = k.0 in absurd (let z : Puts to n b ≡ Took h q.0 q.1 Hello = q.2 in cc))
+    | inr k ↦ k
+  ])
 
   pub listed_step : (s : Step) (S : List Doing) → Listed (after_step s S) h
       → Listed S h ⊎ ListedNow (after_step s S) h
@@ -460,7 +511,8 @@ module _ (h : HostId) where
       let q = k.0 in absurd (let z : Reserves s.reserved ≡ Took h q.0 q.1 Hello = q.2 in cc)
   listed_step s S (inr x) =
       elim (listed_cause s.cause S (listed_deciding s.applied (after_cause s.cause S)
-      (listed_admitting s.admitted (after_deciding s S) (listed_sending s.sent (after_admitting s S) x)))) [
+      (listed_admitting s.admitted (after_deciding s S) (listed_sending s.sent (after_admitting s S)
+      (listed_ships s.shipped (after_sending s S) x))))) [
         | inl k ↦ inl k
         | inr now ↦ inr (in_caused (λ before a. Enlists before a h) s S now)
       ]

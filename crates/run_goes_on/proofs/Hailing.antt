@@ -40,6 +40,8 @@ use Rattle.run_goes_on.proofs.Doings.{took_admitting, took_deciding}
 use Rattle.run_goes_on.proofs.Grown.{ListedBy, admitted_at, caused_on, each_on, in_admitting, in_cause, in_caused}
 use Rattle.run_goes_on.proofs.Grown.{in_sending, listed_admitting, listed_by_step, listed_deciding, sent_split}
 use Rattle.run_goes_on.proofs.Positions.{always_back, steps_back}
+use Rattle.run_tokens.proofs.Ships.{since_shipped}
+use Rattle.run_rules.specs.Doings.{after_sending}
 use Rattle.run_goes_on.proofs.Telling.{decide}
 
 -- # Words
@@ -136,8 +138,8 @@ module _ (script : Script) (start : Tree) (host : HostId) (v : ServerId) (steps 
     by_claim : (c : Admission) → In c s.admitted → c.host ≡ host → HasReclaimed (after_step s S) host
     by_claim c i is =
         inr (
-          in_sending (Reclaims host) s.sent (after_admitting s S)
-              (subst (HasReclaimed (after_admitting s S)) is (admits_in s.admitted (after_deciding s S) c i)),
+          since_shipped (Reclaims host) s.shipped (after_sending s S) (in_sending (Reclaims host) s.sent (after_admitting s S)
+              (subst (HasReclaimed (after_admitting s S)) is (admits_in s.admitted (after_deciding s S) c i))),
           λ k. (let z : Reserves s.reserved ≡ BeginsEpoch k.0 = k.1 in cc),
         )
 

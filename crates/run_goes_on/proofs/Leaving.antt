@@ -14,6 +14,7 @@ use Rattle.message_types.specs.declared.message.Direction.TheVariants.{ToHost, T
 use Rattle.message_types.specs.declared.message.Message.{Message}
 use Rattle.run_rules.specs.Doings.{Doing, GoesAway, HasGoneAway, HasGoneDown, Hears, IsLive, SentNow, TakenNow}
 use Rattle.run_rules.specs.Doings.{after_cause, after_step, doings_of, epoch}
+use Rattle.run_rules.specs.Doings.Doing.{Gets}
 use Rattle.run_rules.specs.Doings.Doing.{BeginsEpoch, Flushes, Took}
 use Rattle.run_rules.specs.HostDue.{HostDue}
 use Rattle.run_rules.specs.HostMay.{AwaitsReclaimed, HostMay}
@@ -242,7 +243,10 @@ module _ (script : Script) (start : Tree) (firsts : ServerId → ℕ) (real : (v
         by (Line line) is old = stays old
         by Lapse is old = stays old
         by Evict is old = stays old
-        by (Freight freight) is old = stays old
+        by (Freight freight) is (inl x) =
+            let k = away_takes host (acts p) (Gets freight.server freight.moves freight.body) x in
+            let z : Gets freight.server freight.moves freight.body ≡ Took k.0 k.1 k.2 k.3 = k.4 in absurd (cc)
+        by (Freight freight) is (inr old) = stays old
         by End is old = stays old
 
     stays_from : (l p : List Step) → IsAfter l p → (HasGoneAway (acts p) host → ⊥)

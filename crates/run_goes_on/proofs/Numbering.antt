@@ -15,7 +15,9 @@ use Rattle.message_types.specs.declared.message.Message.{Message}
 use Rattle.message_types.specs.declared.telling.Done.{Done as DoneOf}
 use Rattle.run_rules.specs.Doings.{Doing, SentTo, TakenNow, WasWritten, admitting, after_admitting, after_cause}
 use Rattle.run_rules.specs.Doings.{after_deciding, after_step, deciding, doings_of, epoch, sending}
-use Rattle.run_rules.specs.Doings.Doing.{Admits, BeginsEpoch, Flushes, MakesWant, Reserves, Sent, Took, WritesDown}
+use Rattle.run_rules.specs.Doings.Doing.{Gets}
+use Rattle.run_rules.specs.Doings.Doing.{Admits, BeginsEpoch, Flushes, MakesWant, Moves, Reserves, Sent, Took}
+use Rattle.run_rules.specs.Doings.Doing.{WritesDown}
 use Rattle.run_rules.specs.HostAsks.{IsChangeNumber, IsNextNumber}
 use Rattle.run_rules.specs.HostMay.{HostMay}
 use Rattle.run_rules.specs.Messages.{Changing, ComesIn, DoneComes, Said, Sends, epoch_at, home}
@@ -45,6 +47,11 @@ use Rattle.run_tokens.proofs.TokenRun.{token_run}
 use Rattle.run_tokens.proofs.Words.{acts_after, if_host, if_server, own_after}
 use Rattle.run_goes_on.proofs.Arriving.{step_on}
 use Rattle.run_goes_on.proofs.Grown.{sent_split}
+use Rattle.run_tokens.specs.Unmoved.{StaysPut}
+use Rattle.run_tokens.proofs.Unmoved.{put_on}
+use Rattle.run_tokens.proofs.Ships.{once_shipped, once_ships}
+use Rattle.run_rules.specs.Doings.Doing.{Puts}
+use Rattle.run_rules.specs.Doings.{after_sending}
 use Rattle.run_goes_on.proofs.Positions.{once_on}
 
 -- # What a step sends
@@ -52,11 +59,16 @@ use Rattle.run_goes_on.proofs.Positions.{once_on}
 -- for what it sends each message
 pub sent_may : (v : ServerId) (tree : Tree) (s : Step) (ms : List Message) (S : List Doing)
     → EachInTurn (MaySend v tree s) (sending ms) S → (m : Message) → In m ms
-    → (mid : List Doing) × MaySend v tree s mid (Sent m.host m.epoch m.moves m.body)
+    → (mid : List Doing) × MaySend v tree s mid (Sent m.host m.epoch m.moves m.body) × (StaysPut S → StaysPut mid)
 sent_may v tree s [] S may m i = elim i [ ]
 sent_may v tree s (x ∷ ms) S may m (inl q) =
-    (S, subst (λ (y : Message). MaySend v tree s S (Sent y.host y.epoch y.moves y.body)) (sym q) may.0)
-sent_may v tree s (x ∷ ms) S may m (inr i) = sent_may v tree s ms (Sent x.host x.epoch x.moves x.body ∷ S) may.1 m i
+    (S, subst (λ (y : Message). MaySend v tree s S (Sent y.host y.epoch y.moves y.body)) (sym q) may.0, λ put. put)
+sent_may v tree s (x ∷ ms) S may m (inr i) =
+    let k = sent_may v tree s ms (Sent x.host x.epoch x.moves x.body ∷ S) may.1 m i in (
+      k.0,
+      k.1,
+      λ put. k.2 (put_on (Sent x.host x.epoch x.moves x.body) S (λ p. let q = p.1 in cc) put),
+    )
 
 in_sents : (ms : List Message) (S : List Doing) (m : Message) → In m ms
     → SentTo (appended (sending ms) S) m.host m.epoch m.moves m.body
@@ -70,7 +82,9 @@ in_sents (x ∷ ms) S m (inl q) =
 -- after the step it was sent
 pub was_sent_by : (s : Step) (S : List Doing) (m : Message) → In m s.sent
     → SentTo (after_step s S) m.host m.epoch m.moves m.body
-was_sent_by s S m i = inr (in_sents s.sent (after_admitting s S) m i)
+was_sent_by s S m i =
+    inr (once_shipped (λ before a. a ≡ Sent m.host m.epoch m.moves m.body) s.shipped (after_sending s S)
+    (in_sents s.sent (after_admitting s S) m i))
 
 -- # What is written down
 
@@ -111,8 +125,9 @@ module _ (h : HostId) (fs : FilesetId) (k : ℕ) where
     | inl old ↦ inl old
     | inr x ↦ inr (x.0, inr x.1, x.2, x.3, x.4)
   ]
-  written_deciding (IsMoved move ∷ xs) S o = elim (written_deciding xs S o) [
-    | inl old ↦ inl old
+  written_deciding (IsMoved move ∷ xs) S o = elim (written_deciding xs (Moves move ∷ S) o) [
+    | inl (inl x) ↦ absurd (let z : Moves move ≡ WritesDown x.0 = x.1 in cc)
+    | inl (inr old) ↦ inl old
     | inr x ↦ inr (x.0, inr x.1, x.2, x.3, x.4)
   ]
 
@@ -143,7 +158,8 @@ module _ (h : HostId) (fs : FilesetId) (k : ℕ) where
   written_cause (Line line) S o = o
   written_cause Lapse S o = o
   written_cause Evict S o = o
-  written_cause (Freight freight) S o = o
+  written_cause (Freight freight) S (inl x) = absurd (let z : Gets freight.server freight.moves freight.body ≡ WritesDown x.0 = x.1 in cc)
+  written_cause (Freight freight) S (inr o) = o
   written_cause End S o = o
 
   written_split : (s : Step) (S : List Doing) → WasWritten (after_step s S) h fs k
@@ -151,7 +167,8 @@ module _ (h : HostId) (fs : FilesetId) (k : ℕ) where
   written_split s S (inl x) = absurd (let z : Reserves s.reserved ≡ WritesDown x.0 = x.1 in cc)
   written_split s S (inr o) =
       elim (written_deciding s.applied (after_cause s.cause S)
-      (written_admitting s.admitted (after_deciding s S) (written_sending s.sent (after_admitting s S) o))) [
+      (written_admitting s.admitted (after_deciding s S) (written_sending s.sent (after_admitting s S)
+      (once_ships Writes (λ T to n b x. (let z : Puts to n b ≡ WritesDown x.0 = x.1 in cc)) s.shipped (after_sending s S) o)))) [
         | inl old ↦ inl (written_cause s.cause S old)
         | inr now ↦ inr now
       ]

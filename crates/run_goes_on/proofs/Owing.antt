@@ -20,12 +20,15 @@ use Rattle.message_types.specs.declared.message.Direction.TheVariants.{ToHost, T
 use Rattle.message_types.specs.declared.message.Message.{Message}
 use Rattle.message_types.specs.declared.tokens.Named.{Named}
 use Rattle.message_types.specs.declared.tokens.Revoke.{Revoke as RevokeOf}
-use Rattle.run_rules.specs.Doings.{Doing, Enlists, Granted, HasReclaimed, InEpoch, IsLive, Issued, Issues, Pinned}
+use Rattle.run_rules.specs.Doings.{Doing, Enlists, Granted, HasReclaimed, Here, InEpoch, IsLive, Issued, Issues, Pinned}
 use Rattle.run_rules.specs.Doings.{SentNow, StayStamp, after_admitting, after_cause, after_deciding}
 use Rattle.run_rules.specs.Doings.{after_step, doings_of, epoch, sending}
-use Rattle.run_rules.specs.Doings.Doing.{Admits, BeginsEpoch, Flushes, MakesWant, Reserves, Sent, Took, WritesDown}
+use Rattle.run_rules.specs.Doings.Doing.{Gets}
+use Rattle.run_rules.specs.Doings.Doing.{Admits, BeginsEpoch, Flushes, MakesWant, Moves, Reserves, Sent, Took}
+use Rattle.run_rules.specs.Doings.Doing.{WritesDown}
 use Rattle.run_rules.specs.HostDue.{AnswersOf, HasDirty, HostDue, RevokeDue}
 use Rattle.run_rules.specs.HostMay.{HostMay, IsExact}
+use Rattle.run_rules.specs.Kept.{filesets_kept}
 use Rattle.run_rules.specs.Messages.{HasStopped, KeepsToken, Sends, Stay, epoch_at, first_stay, home}
 use Rattle.run_rules.specs.Past.{Always, In, appended}
 use Rattle.run_rules.specs.Plans.{receiver_by, resender_by, resender}
@@ -42,7 +45,10 @@ use Rattle.run_rules.specs.declared.step.Cause.TheVariants.{Line, Message as Cam
 use Rattle.run_rules.specs.declared.step.Labelled.{Labelled}
 use Rattle.run_rules.specs.declared.step.Step.{Step}
 use Rattle.run_tokens.proofs.Law.{Whole}
-use Rattle.run_tokens.proofs.Words.{acts_after, if_host, if_server, own_after}
+use Rattle.run_tokens.proofs.TokenRun.{works_none}
+use Rattle.run_tokens.proofs.Unmoved.{admitted_put, here_is, here_was}
+use Rattle.run_tokens.proofs.Words.{acts_after, if_host, if_server, made_at, own_after, stay_first}
+use Rattle.run_tokens.specs.Unmoved.{StaysPut}
 use Rattle.run_goes_on.proofs.Arriving.{cause_on, due_at, due_of, found, from_one, meets_at, step_on, whole_at}
 use Rattle.run_goes_on.proofs.Doings.{Knows, epoch_after_cause, epoch_step, knows, reclaimed_by, sent_so}
 use Rattle.run_goes_on.proofs.Giving.{gives_are_known}
@@ -52,6 +58,10 @@ use Rattle.run_goes_on.proofs.Positions.{doings_on, host_steps, own_on, own_run,
 use Rattle.run_goes_on.proofs.Posted.{comes_of}
 use Rattle.run_goes_on.proofs.Stopping.{stopped_away}
 use Rattle.run_goes_on.specs.Rest.{AllIsOver, IsStopped, LapsesIn, NoneIsHeld}
+use Rattle.run_tokens.proofs.Ships.{since_ships}
+use Rattle.run_rules.specs.Doings.Doing.{Puts}
+use Rattle.run_rules.specs.Doings.{after_sending}
+use Rattle.run_tokens.proofs.Ships.{since_shipped}
 use Rattle.run_goes_on.specs.Waiting.{NothingIsOwed}
 
 abbrev Reclaims : HostId → List Doing → Doing → Type 0
@@ -80,16 +90,19 @@ module _ (t : Token) where
       → HasRevoked (after_cause s.cause S) t ⊎ ((r : RevokeOf) × SentNow s t.host (Revoke r) × In t.id r.ids)
   asks_step s S (inl (e, n, r, q, i)) =
       absurd (let z : Reserves s.reserved ≡ Sent t.host e n (Revoke r) = q in cc)
-  asks_step s S (inr x) = elim (asks_sending s.sent (after_admitting s S) x.0) [
-    | inr k ↦ inr (k.0, (k.1, k.2, k.3, k.4), k.5)
-    | inl k ↦ inl (back_deciding Asks
-        (λ T w a. (let z : MakesWant w ≡ Sent t.host a.0 a.1 (Revoke a.2) = a.3 in cc))
-        (λ T w a. (let z : WritesDown w ≡ Sent t.host a.0 a.1 (Revoke a.2) = a.3 in cc)) s.applied
-        (after_cause s.cause S)
-        (back_admitting Asks (λ T h ts a. (let z : Admits h ts ≡ Sent t.host a.0 a.1
-        (Revoke a.2) = a.3 in cc)) s.admitted
-        (after_deciding s S) k))
-  ]
+  asks_step s S (inr x) = elim (asks_sending s.sent (after_admitting s S)
+      (since_ships Asks (λ T to n b a. (let z : Puts to n b ≡ Sent t.host a.0 a.1 (Revoke a.2) = a.3 in cc)) s.shipped
+      (after_sending s S) x.0)) [
+        | inr k ↦ inr (k.0, (k.1, k.2, k.3, k.4), k.5)
+        | inl k ↦ inl (back_deciding Asks
+            (λ T w a. (let z : MakesWant w ≡ Sent t.host a.0 a.1 (Revoke a.2) = a.3 in cc))
+            (λ T w a. (let z : WritesDown w ≡ Sent t.host a.0 a.1 (Revoke a.2) = a.3 in cc))
+            (λ T m a. (let z : Moves m ≡ Sent t.host a.0 a.1 (Revoke a.2) = a.3 in cc)) s.applied
+            (after_cause s.cause S)
+            (back_admitting Asks (λ T h ts a. (let z : Admits h ts ≡ Sent t.host a.0 a.1
+            (Revoke a.2) = a.3 in cc)) s.admitted
+            (after_deciding s S) k))
+      ]
 
   asks_cause : (c : Cause) (S : List Doing) → HasRevoked (after_cause c S) t
       → HasRevoked S t × (epoch (after_cause c S) ≡ epoch S)
@@ -104,7 +117,8 @@ module _ (t : Token) where
   asks_cause (Line line) S x = (x, refl)
   asks_cause Lapse S x = (x, refl)
   asks_cause Evict S x = (x, refl)
-  asks_cause (Freight freight) S x = (x, refl)
+  asks_cause (Freight freight) S (inl a) = absurd (let z : Gets freight.server freight.moves freight.body ≡ Sent t.host a.0 a.1 (Revoke a.2) = a.3 in cc)
+  asks_cause (Freight freight) S (inr x) = (x.0, refl)
   asks_cause End S x = (x, refl)
 
 -- # A label in use is of a token that was taken, of a lock or an open file
@@ -173,7 +187,9 @@ module _ (script : Script) (start : Tree) (firsts : ServerId → ℕ) (real : (v
   id_v = ((all [] run refl).at v).served.id t issued_end.0 issued_end.1
 
   fid_v : home t.fid.fileset ≡ v
-  fid_v = ap (λ (y : Stay). y.server) (((all [] run refl).at v).served.at t issued_end.0 issued_end.1)
+  fid_v =
+      made_at v (acts run) t.fid.fileset issued_end.0.moves ((all [] run refl).at v).served.put
+      (((all [] run refl).at v).served.at t issued_end.0 issued_end.1)
 
   same_token : (l p : List Step) → appended l p ≡ run → (u : Token) (y : StayStamp) → Issued (acts p) u y
       → u.id ≡ t.id → u ≡ t
@@ -528,7 +544,7 @@ module _ (script : Script) (start : Tree) (firsts : ServerId → ℕ) (real : (v
           (ap (λ (b : Body). resender_by b sends.0) sends.5) takes
         where
           stays : first_stay named.fid.fileset ≡ record { server = w; moves = n }
-          stays = may.tokens.answers named w e n (inl sends)
+          stays = stay_first (x ∷ own p) named.fid.fileset w n (may.tokens.answers named w e n (inl sends))
 
           to_v : w ≡ v
           to_v = sym (ap (λ (y : Stay). y.server) stays) ∙ at_v
@@ -541,10 +557,11 @@ module _ (script : Script) (start : Tree) (firsts : ServerId → ℕ) (real : (v
                 | inr old ↦ old.2 (inl (named, (sends.0.moves, here, (path, lives (y ∷ q) m b.has)), i))
               ]
             where
-              here : first_stay named.fid.fileset ≡ record { server = v; moves = sends.0.moves }
+              here : Here v (acts m) named.fid.fileset sends.0.moves
               here =
-                  subst (λ (z : ServerId × ℕ). first_stay named.fid.fileset ≡ record { server = z.0; moves = z.1 })
-                  (λ j. (to_v j, sym sends.4 j)) stays
+                  here_was v (acts m) named.fid.fileset sends.0.moves ((all (y ∷ q) m b.has.whole).at v).served.put
+                  (subst (λ (z : ServerId × ℕ). first_stay named.fid.fileset ≡ record { server = z.0; moves = z.1 })
+                  (λ j. (to_v j, sym sends.4 j)) stays)
 
               path : Took sends.0.host sends.0.epoch sends.0.moves sends.0.body
                   ≡ Took t.host (epoch (acts m)) sends.0.moves (Returned named)
@@ -580,7 +597,9 @@ module _ (script : Script) (start : Tree) (firsts : ServerId → ℕ) (real : (v
               ∙ (ap (λ (u : Token). home u.fid.fileset) held_t ∙ fid_v)
 
           stays : first_stay keeps.3.fid.fileset ≡ record { server = keeps.0; moves = keeps.2 }
-          stays = may.tokens.answers keeps.3 keeps.0 keeps.1 keeps.2 (inr keeps.4)
+          stays =
+              stay_first (x ∷ own p) keeps.3.fid.fileset keeps.0 keeps.2
+              (may.tokens.answers keeps.3 keeps.0 keeps.1 keeps.2 (inr keeps.4))
 
           to_v : keeps.0 ≡ v
           to_v = sym (ap (λ (y : Stay). y.server) stays) ∙ at_v
@@ -616,10 +635,11 @@ module _ (script : Script) (start : Tree) (firsts : ServerId → ℕ) (real : (v
               keeping : Keeps v t b.has.mark (after_cause (Came keeps.4.0) (acts m)) (acts run)
               keeping = keeps_came q m y b at keeps.4.0 cause
 
-              here : first_stay keeps.3.fid.fileset ≡ record { server = v; moves = keeps.4.0.moves }
+              here : Here v (acts m) keeps.3.fid.fileset keeps.4.0.moves
               here =
-                  subst (λ (z : ServerId × ℕ). first_stay keeps.3.fid.fileset ≡ record { server = z.0; moves = z.1 })
-                  (λ j. (to_v j, sym keeps.4.4 j)) stays
+                  here_was v (acts m) keeps.3.fid.fileset keeps.4.0.moves ((all (y ∷ q) m b.has.whole).at v).served.put
+                  (subst (λ (z : ServerId × ℕ). first_stay keeps.3.fid.fileset ≡ record { server = z.0; moves = z.1 })
+                  (λ j. (to_v j, sym keeps.4.4 j)) stays)
 
               path : Took keeps.4.0.host keeps.4.0.epoch keeps.4.0.moves keeps.4.0.body
                   ≡ Took t.host (epoch (acts m)) keeps.4.0.moves (Kept keeps.3)
@@ -627,10 +647,20 @@ module _ (script : Script) (start : Tree) (firsts : ServerId → ℕ) (real : (v
 
       -- # But it is one of these, where the Revoke comes
       module _ (cause : x.cause ≡ Came k.sent.0) where
+        may_send : ServerMay script start v (steps_of_server v k.before) (acts k.before) k.step
+        may_send = server_may k.rest k.before k.step k.whole k.at
+
+        admitted_so : StaysPut (after_admitting k.step (acts k.before))
+        admitted_so =
+            admitted_put k.step (acts k.before)
+            (works_none v (filesets_kept start v (steps_of_server v k.before)) (acts k.before) k.step may_send.works.applies)
+            ((all (k.step ∷ k.rest) k.before k.whole).at v).served.put
+
         sent_from : (mid : List Doing) × ServerTokens v mid (Sent k.sent.0.host k.sent.0.epoch k.sent.0.moves
             k.sent.0.body) × (k.sent.0.epoch ≡ epoch (after_cause k.step.cause (acts k.before)))
+            × (StaysPut (after_admitting k.step (acts k.before)) → StaysPut mid)
         sent_from =
-            sent_so v k.step (acts k.before) (server_may k.rest k.before k.step k.whole k.at).tokens k.sent.0 k.sent.1
+            sent_so v k.step (acts k.before) may_send.tokens k.sent.0 k.sent.1
 
         from : k.sent.0.server ≡ v
         from =
@@ -639,8 +669,9 @@ module _ (script : Script) (start : Tree) (firsts : ServerId → ℕ) (real : (v
 
         file_here : first_stay k.revoke.fid.fileset ≡ record { server = v; moves = k.sent.0.moves }
         file_here =
-            sent_from.1.revokes_here k.sent.0.host k.sent.0.epoch k.sent.0.moves k.revoke
-            (λ j. Sent k.sent.0.host k.sent.0.epoch k.sent.0.moves (k.sent.3 j))
+            here_is v sent_from.0 k.revoke.fid.fileset k.sent.0.moves (sent_from.3 admitted_so)
+            (sent_from.1.revokes_here k.sent.0.host k.sent.0.epoch k.sent.0.moves k.revoke
+            (λ j. Sent k.sent.0.host k.sent.0.epoch k.sent.0.moves (k.sent.3 j)))
 
         file_v : home k.revoke.fid.fileset ≡ v
         file_v = ap (λ (y : Stay). y.server) file_here
@@ -701,7 +732,8 @@ module _ (script : Script) (start : Tree) (firsts : ServerId → ℕ) (real : (v
       has = has_first;
       revoked = subst (λ (S : List Doing). HasRevoked S t) (sym (server_doings (firsts v) v k.step k.before k.at))
           (inr (
-            asks_now k.step.sent (after_admitting k.step (acts k.before)) k.sent.0 k.sent.1 k.sent.2 k.sent.3,
+            since_shipped (Asks t) k.step.shipped (after_sending k.step (acts k.before))
+                (asks_now k.step.sent (after_admitting k.step (acts k.before)) k.sent.0 k.sent.1 k.sent.2 k.sent.3),
             λ n. (let z : Reserves k.step.reserved ≡ BeginsEpoch n.0 = n.1 in cc),
           ));
       short = omega arith;

@@ -7,8 +7,10 @@ use Rattle.base_types.specs.declared.ids.ServerId.{ServerId}
 use Rattle.tree_answers.specs.declared.tree.Tree.{Tree}
 use Rattle.script_lines.specs.declared.script.Script.{Script}
 use Rattle.message_types.specs.declared.message.Message.{Message}
+use Rattle.run_rules.specs.Doings.{after_shipping}
 use Rattle.run_rules.specs.Doings.{Doing, admitting, after_admitting, after_cause, after_deciding, after_sending}
 use Rattle.run_rules.specs.Doings.{after_step, deciding, doings_of, epoch, sending}
+use Rattle.run_rules.specs.Doings.Doing.{Gets, Puts}
 use Rattle.run_rules.specs.Doings.Doing.{Admits, BeginsEpoch, Flushes, MakesWant, Reserves, Sent, Took, WritesDown}
 use Rattle.run_rules.specs.Kept.{filesets_after, filesets_kept, filesets_through}
 use Rattle.run_rules.specs.Past.{Always, appended}
@@ -29,6 +31,8 @@ use Rattle.run_rules.specs.declared.step.Cause.TheVariants.{End, Evict, Flushed,
 use Rattle.run_rules.specs.declared.step.Cause.TheVariants.{Line, Message as Came, Restart}
 use Rattle.run_rules.specs.declared.step.Step.{Step}
 use Rattle.run_contents.proofs.Grants.{same_decisions}
+use Rattle.run_tokens.proofs.TokenRun.{works_none}
+use Rattle.run_tokens.proofs.Ships.{ships_keep}
 use Rattle.run_tokens.proofs.Words.{acts_after, if_server}
 
 -- # Which wants can't both wait
@@ -90,7 +94,7 @@ causes Flushed S old = on S Flushes (λ w e. absurd (cc)) old
 causes (Line line) S old = old
 causes Lapse S old = old
 causes Evict S old = old
-causes (Freight freight) S old = old
+causes (Freight freight) S old = on S (Gets freight.server freight.moves freight.body) (λ w e. absurd (cc)) old
 causes End S old = old
 
 decides : (v : ServerId) (before : List Doing) (s : Step) (xs : List Applied) (tree : Tree) (S : List Doing)
@@ -121,11 +125,13 @@ sends (m ∷ ms) S old =
 new_step : (script : Script) (start : Tree) (v : ServerId) (steps : List Step) (S : List Doing) (s : Step)
     → ServerMay script start v steps S s → MadeNew S → MadeNew (after_step s S)
 new_step script start v steps S s m old =
-    on (after_sending s S) (Reserves s.reserved) (λ w e. absurd (cc))
+    on (after_shipping s S) (Reserves s.reserved) (λ w e. absurd (cc))
+    (ships_keep MadeNew (λ T to n b was. on T (Puts to n b) (λ w e. absurd (cc)) was) s.shipped (after_sending s S)
     (sends s.sent (after_admitting s S) (admits s.admitted (after_deciding s S)
-    (subst MadeNew (sym (same_decisions s.applied (after_cause s.cause S)))
+    (subst MadeNew (sym (same_decisions s.applied (after_cause s.cause S)
+    (works_none v (filesets_kept start v steps) S s m.works.applies)))
     (decides v S s (decisions s.applied) (filesets_through s.cause (by_cause s.applied) (filesets_kept start v steps))
-    (after_cause s.cause S) m.works.decides (causes s.cause S old)))))
+    (after_cause s.cause S) m.works.decides (causes s.cause S old))))))
 
 module _ (script : Script) (start : Tree) (firsts : ServerId → ℕ) (v : ServerId) where
   new_at : (k : Node) (past : List Step) (s : Step) → StepMeets script start firsts k past s

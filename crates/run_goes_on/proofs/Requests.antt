@@ -18,7 +18,7 @@ use Rattle.run_rules.specs.Kept.{filesets_kept, filesets_through}
 use Rattle.run_rules.specs.Messages.{IsWelcome, Sends, Stay, epoch_at, first_stay, home}
 use Rattle.run_rules.specs.Past.{In}
 use Rattle.run_rules.specs.Plans.{resender_by}
-use Rattle.run_rules.specs.ServerDecides.{IsAskedHere, IsMeantSo}
+use Rattle.run_rules.specs.ServerDecides.{IsAskedHere, IsDecidedHere, IsMeantSo}
 use Rattle.run_rules.specs.ServerMay.{ServerMay}
 use Rattle.run_rules.specs.Wants.{CannotBothWait, Decides, IsOld, body_of}
 use Rattle.run_rules.specs.declared.applied.Request.{Request}
@@ -26,6 +26,10 @@ use Rattle.run_rules.specs.declared.applied.Request.TheVariants.{Change as Chang
 use Rattle.run_rules.specs.declared.applied.Written.{Written}
 use Rattle.run_rules.specs.declared.step.Cause.TheVariants.{Message as Came}
 use Rattle.run_rules.specs.declared.step.Step.{Step}
+use Rattle.run_tokens.proofs.TokenRun.{works_none}
+use Rattle.run_tokens.proofs.Unmoved.{admitted_put, here_is, here_was}
+use Rattle.run_tokens.proofs.Words.{stay_first}
+use Rattle.run_tokens.specs.Unmoved.{StaysPut}
 use Rattle.run_goes_on.proofs.Doings.{sent_so}
 use Rattle.run_goes_on.proofs.Numbering.{sent_may}
 use Rattle.run_goes_on.specs.Ended.{IsRequest, IsSame}
@@ -54,18 +58,28 @@ no_give _ asks = elim asks [ ]
 abbrev pub IsMeant : Body → Type 0
 IsMeant b = (c : ChangeOf) → b ≡ Change c → IsMeantSo c
 
--- where it goes: to the server, with this number of moves
+-- where it goes: to the server, with this number of moves, where nothing has moved
 abbrev pub GoesIn : ServerId → Body → ℕ → Type 0
 GoesIn v (Fetch f) k = first_stay f.fid.fileset ≡ record { server = v; moves = k }
 GoesIn v (Change c) k =
     ((c.fileset.0 ≡ 0) × (k ≡ 0)) ⊎ (first_stay c.fileset ≡ record { server = v; moves = k })
 GoesIn v _ k = ⊥
 
-pub asked_here : (v : ServerId) (S : List Doing) (k : ℕ) (b : Body) (asks : IsRequest b) → IsMeant b → GoesIn v b k
+pub decided_here : (v : ServerId) (S : List Doing) → StaysPut S → (fs : FilesetId) (k : ℕ)
+    → ((fs.0 ≡ 0) × (k ≡ 0)) ⊎ (first_stay fs ≡ record { server = v; moves = k }) → IsDecidedHere v S fs k
+decided_here v S put fs k (inl none) = inl none
+decided_here v S put fs k (inr first) = inr (here_was v S fs k put first)
+
+pub asked_here : (v : ServerId) (S : List Doing) → StaysPut S → (k : ℕ) (b : Body) (asks : IsRequest b) → IsMeant b → GoesIn v b k
     → IsAskedHere v S k (request_of b asks)
-asked_here v S k (Fetch f) asks meant goes = goes
-asked_here v S k (Change c) asks meant goes = (goes, meant c refl)
-asked_here v S k _ asks meant goes = elim asks [ ]
+asked_here v S put k (Fetch f) asks meant goes = here_was v S f.fid.fileset k put goes
+asked_here v S put k (Change c) asks meant goes = (decided_here v S put c.fileset k goes, meant c refl)
+asked_here v S put k _ asks meant goes = elim asks [ ]
+
+first_decided : (v : ServerId) (S : List Doing) → StaysPut S → (fs : FilesetId) (k : ℕ) → IsDecidedHere v S fs k
+    → ((fs.0 ≡ 0) × (k ≡ 0)) ⊎ (first_stay fs ≡ record { server = v; moves = k })
+first_decided v S put fs k (inl none) = inl none
+first_decided v S put fs k (inr here) = inr (here_is v S fs k put here)
 
 -- # What a host says
 
@@ -77,8 +91,11 @@ module _ (script : Script) (host : HostId) (A : List Step) (s : Step) (may : Hos
   welcome_asks _ asks sends = elim asks [ ]
 
   pub goes_in : (b : Body) → IsRequest b → Sends s v e k b → GoesIn v b k
-  goes_in (Fetch f) asks sends = (may.tokens.fetches f v e k sends).0
-  goes_in (Change c) asks sends = (may.tokens.changes c v e k sends).0
+  goes_in (Fetch f) asks sends = stay_first (s ∷ A) f.fid.fileset v k (may.tokens.fetches f v e k sends).0
+  goes_in (Change c) asks sends = elim (may.tokens.changes c v e k sends).0 [
+    | inl none ↦ inl none
+    | inr stays ↦ inr (stay_first (s ∷ A) c.fileset v k stays)
+  ]
   goes_in _ asks sends = elim asks [ ]
 
 -- # What a server answers
@@ -97,25 +114,30 @@ answer_resends (Change c) _ m a = elim a [ ]
 answer_resends _ _ m a = elim a [ ]
 
 module _ (script : Script) (start : Tree) (v : ServerId) (steps : List Step) (S : List Doing) (t : Step)
-    (may : ServerMay script start v steps S t) (m : Message) (i : In m t.sent) where
+    (may : ServerMay script start v steps S t) (put : StaysPut S) (m : Message) (i : In m t.sent) where
+  admitted : StaysPut (after_admitting t S)
+  admitted = admitted_put t S (works_none v (filesets_kept start v steps) S t may.works.applies) put
+
   -- it goes to the host as the request came
   pub answer_goes : (b : Body) → IsAnswer b m.body → GoesIn v b m.moves
   answer_goes (Fetch f) a = go m.body refl a
     where
       go : (d : Body) → m.body ≡ d → IsAnswer (Fetch f) d → GoesIn v (Fetch f) m.moves
       go (Grant g) is k =
-          let from = (sent_so v t S may.tokens m i).1 in
+          let at = sent_so v t S may.tokens m i in
           subst (λ (x : FilesetId). first_stay x ≡ record { server = v; moves = m.moves }) k.0
-          (from.grants m.host m.epoch m.moves g (λ j. Sent m.host m.epoch m.moves (is j))).0.home
+          (here_is v at.0 g.bring.fid.fileset m.moves (at.3 admitted)
+          (at.1.grants m.host m.epoch m.moves g (λ j. Sent m.host m.epoch m.moves (is j))).0.home)
       go _ is k = elim k [ ]
   answer_goes (Change c) a = go m.body refl a
     where
       go : (d : Body) → m.body ≡ d → IsAnswer (Change c) d → GoesIn v (Change c) m.moves
       go (Done d) is k =
-          let from = (sent_may v (filesets_through t.cause t.applied (filesets_kept start v steps)) t t.sent
-          (after_admitting t S) may.works.sends m i).1 in
+          let at = sent_may v (filesets_through t.cause t.applied (filesets_kept start v steps)) t t.sent
+          (after_admitting t S) may.works.sends m i in
           subst (λ (x : FilesetId). GoesIn v (Change (record c { fileset = x })) m.moves) k.0
-          (from.done_for m.host m.epoch m.moves d (λ j. Sent m.host m.epoch m.moves (is j))).1
+          (first_decided v at.0 (at.2 admitted) d.fileset m.moves
+          (at.1.done_for m.host m.epoch m.moves d (λ j. Sent m.host m.epoch m.moves (is j))).1)
       go _ is k = elim k [ ]
   answer_goes _ a = elim a [ ]
 

@@ -13,9 +13,11 @@ use Rattle.script_lines.specs.declared.script.Script.{Script}
 use Rattle.message_types.specs.declared.message.Body.{Body}
 use Rattle.message_types.specs.declared.message.Body.TheVariants.{Bye, Change, Down, Fetch, Hello}
 use Rattle.message_types.specs.declared.message.Message.{Message}
+use Rattle.run_rules.specs.Doings.{after_shipping}
 use Rattle.run_rules.specs.Doings.{Doing, GoesAway, HasGoneAway, Listed, SentTo, TakenNow, TookNow, admitting}
 use Rattle.run_rules.specs.Doings.{after_admitting, after_cause, after_deciding, after_sending, after_step, deciding}
 use Rattle.run_rules.specs.Doings.{doings_of, epoch, sending}
+use Rattle.run_rules.specs.Doings.Doing.{Gets, Puts}
 use Rattle.run_rules.specs.Doings.Doing.{Admits, BeginsEpoch, Flushes, MakesWant, Reserves, Sent, Took, WritesDown}
 use Rattle.run_rules.specs.HostTokens.{IsUnused, MayEvict}
 use Rattle.run_rules.specs.Kept.{filesets_after, filesets_kept, filesets_through}
@@ -54,6 +56,8 @@ use Rattle.run_goes_on.proofs.Grown.{sent_split}
 use Rattle.run_goes_on.proofs.Unblocking.{takes_part}
 use Rattle.run_goes_on.specs.Ended.{AllIsFlushed, EndedRunsRest, NoMoveWaits}
 use Rattle.run_goes_on.specs.Rest.{CanEnd, RunRests}
+use Rattle.run_tokens.proofs.TokenRun.{works_none}
+use Rattle.run_tokens.proofs.Ships.{ships_keep}
 use Rattle.run_goes_on.specs.Resting.{NoneAwaits}
 
 -- # A host whose want waits hasn't gone away
@@ -138,7 +142,7 @@ causes Flushed S old = on S Flushes (λ w e. cc) old
 causes (LineOf line) S old = old
 causes Lapse S old = old
 causes Evict S old = old
-causes (Freight freight) S old = old
+causes (Freight freight) S old = on S (Gets freight.server freight.moves freight.body) (λ w e. cc) old
 causes End S old = old
 
 admits : (cs : List Admission) (S : List Doing) → AllHere S → AllHere (appended (admitting cs) S)
@@ -153,11 +157,13 @@ sends (m ∷ ms) S old =
 here_step : (script : Script) (start : Tree) (v : ServerId) (steps : List Step) (S : List Doing) (s : Step)
     → ServerMay script start v steps S s → AllHere S → AllHere (after_step s S)
 here_step script start v steps S s m old =
-    on (after_sending s S) (Reserves s.reserved) (λ w e. cc)
+    on (after_shipping s S) (Reserves s.reserved) (λ w e. cc)
+    (ships_keep AllHere (λ T to n b was. on T (Puts to n b) (λ w e. cc) was) s.shipped (after_sending s S)
     (sends s.sent (after_admitting s S) (admits s.admitted (after_deciding s S)
-    (subst AllHere (sym (same_decisions s.applied (after_cause s.cause S)))
+    (subst AllHere (sym (same_decisions s.applied (after_cause s.cause S)
+    (works_none v (filesets_kept start v steps) S s m.works.applies)))
     (decides v S s (decisions s.applied) (filesets_through s.cause (by_cause s.applied) (filesets_kept start v steps))
-    (after_cause s.cause S) m.works.decides (takes_here v S s) (causes s.cause S old)))))
+    (after_cause s.cause S) m.works.decides (takes_here v S s) (causes s.cause S old))))))
 
 -- what was taken in the epoch is of a host on the list
 took_listed : (S : List Doing) (h : HostId) (n : ℕ) (b : Body) → TookNow S h n b → Listed S h

@@ -19,10 +19,12 @@ use Rattle.message_types.specs.declared.message.Direction.TheVariants.{ToHost, T
 use Rattle.message_types.specs.declared.message.Message.{Message}
 use Rattle.message_types.specs.declared.telling.Done.{Done as DoneOf}
 use Rattle.message_types.specs.declared.telling.DoneIs.TheVariants.{Reply as HasReply}
+use Rattle.run_rules.specs.Doings.{after_shipping}
 use Rattle.run_rules.specs.Doings.{Doing, GoesAway, HasGoneAway, HasReclaimed, IsLive, IsNewEpoch, Listed, SentNow}
 use Rattle.run_rules.specs.Doings.{SentTo, TakenNow, WasWritten, admitting, after_admitting, after_cause}
 use Rattle.run_rules.specs.Doings.{after_deciding}
 use Rattle.run_rules.specs.Doings.{after_sending, after_step, deciding, doings_of, epoch, sending}
+use Rattle.run_rules.specs.Doings.Doing.{Gets, Puts}
 use Rattle.run_rules.specs.Doings.Doing.{Admits, Flushes, MakesWant, Reserves, Sent, Took, WritesDown}
 use Rattle.run_rules.specs.HostAsks.{IsChangeNumber}
 use Rattle.run_rules.specs.HostDue.{HostDue, IsUnanswered}
@@ -67,11 +69,15 @@ use Rattle.run_goes_on.proofs.Numbering.{numbers_below, done_said, written_answe
 use Rattle.run_goes_on.proofs.Positions.{Cut, always_back, cut, doings_on, host_steps, own_on, own_run, server_doings}
 use Rattle.run_goes_on.proofs.Queueing.{both_back, one_waits}
 use Rattle.run_goes_on.proofs.Requests.{GoesIn, IsAnswer, IsMeant, answer_ends, answer_goes, answer_resends}
-use Rattle.run_goes_on.proofs.Requests.{asked_here, body_is, decides_not, decides_sent, decides_written, goes_in}
+use Rattle.run_goes_on.proofs.Requests.{asked_here, body_is, decided_here, decides_not, decides_sent}
+use Rattle.run_goes_on.proofs.Requests.{decides_written, goes_in}
 use Rattle.run_goes_on.proofs.Requests.{no_give, old_change, request_of, same_by, same_is, welcome_asks}
 use Rattle.run_goes_on.proofs.Staying.{SendsIt, WasSent, for_itself, goes_there, host_resends, was_sent}
 use Rattle.run_goes_on.proofs.Telling.{decide, learns_by, server_due, server_may, server_sends}
 use Rattle.run_goes_on.specs.Ended.{IsRequest, IsSame, RequestsStandAsWants}
+use Rattle.run_tokens.proofs.TokenRun.{works_none}
+use Rattle.run_tokens.specs.Unmoved.{MovesNone}
+use Rattle.run_tokens.proofs.Ships.{ships_keep}
 use Rattle.run_goes_on.specs.Rest.{AllIsOver, IsTakenIn, LapsesIn, NoneIsHeld}
 
 -- # Words
@@ -406,7 +412,8 @@ module _ (script : Script) (start : Tree) (firsts : ServerId → ℕ) (real : (v
         ends {u = u} c cause node_u =
             let then_at = at_cut after_it c in
             answer_ends v (own c.before) u w cause server (now ∙ sym (host_epoch (u ∷ c.after) c.before then_at)) n b
-            (answer_goes script start v (steps_of_server v p) (acts p) t (may_then l p t a.whole at) w i b answers)
+            (answer_goes script start v (steps_of_server v p) (acts p) t (may_then l p t a.whole at)
+            ((all (t ∷ l) p a.whole).at v).served.put w i b answers)
             answers
             (subst (λ (L : List Step). IsUnanswered L v n b) (host_steps host u c.before node_u)
             (outstanding c.after (u ∷ c.before) then_at.whole (mark_on c.before u then_at.mark).sent))
@@ -487,7 +494,14 @@ module _ (script : Script) (start : Tree) (firsts : ServerId → ℕ) (real : (v
       keep_cause (Line line) is has = has
       keep_cause Lapse is has = has
       keep_cause Evict is has = has
-      keep_cause (Freight freight) is has = has
+      keep_cause (Freight freight) is has =
+          keep S (Gets freight.server freight.moves freight.body)
+          (keep_quiet S (Gets freight.server freight.moves freight.body) (λ j d k c z. cc) (λ y z. cc) (λ y z. cc) (λ gone. none_goes gone)
+          (λ new. (let z = new.1 in cc))) has
+        where
+          none_goes : GoesAway S (Gets freight.server freight.moves freight.body) host → ⊥
+          none_goes (inl z) = let y = z.2 in cc
+          none_goes (inr z) = let y = z.0.1 in cc
       keep_cause End is has = has
 
       -- a want that is made in its place is one of it
@@ -618,14 +632,23 @@ module _ (script : Script) (start : Tree) (firsts : ServerId → ℕ) (real : (v
       -- what is so once the step has decided is so at its end
       from_decided : HasOne (after_deciding t S) → HasOne (after_step t S)
       from_decided has =
-          keep (after_sending t S) (Reserves t.reserved)
-          (keep_quiet (after_sending t S) (Reserves t.reserved) (λ j d k c z. cc) (λ y z. cc) (λ y z. cc)
+          keep (after_shipping t S) (Reserves t.reserved)
+          (keep_quiet (after_shipping t S) (Reserves t.reserved) (λ j d k c z. cc) (λ y z. cc) (λ y z. cc)
           (λ gone. none_goes gone) (λ new. (let z = new.1 in cc)))
-          (keep_sends t.sent (after_admitting t S) (λ w i. i) (keep_admits t.admitted (after_deciding t S) has))
+          (ships_keep HasOne (λ T to n b was. keep T (Puts to n b)
+          (keep_quiet T (Puts to n b) (λ j d k c z. cc) (λ y z. cc) (λ y z. cc) (λ gone. none_goes_by T to n b gone)
+          (λ new. (let z = new.1 in cc))) was) t.shipped (after_sending t S) (keep_sends t.sent (after_admitting t S) (λ w i. i) (keep_admits t.admitted (after_deciding t S) has)))
         where
-          none_goes : GoesAway (after_sending t S) (Reserves t.reserved) host → ⊥
+          none_goes_by : (T : List Doing) (to : ServerId) (n : ℕ) (b : Body) → GoesAway T (Puts to n b) host → ⊥
+          none_goes_by T to n b (inl z) = let y = z.2 in cc
+          none_goes_by T to n b (inr z) = let y = z.0.1 in cc
+
+          none_goes : GoesAway (after_shipping t S) (Reserves t.reserved) host → ⊥
           none_goes (inl z) = let y = z.2 in cc
           none_goes (inr z) = let y = z.0.1 in cc
+
+      none_moved : MovesNone t
+      none_moved = works_none v (filesets_kept start v (steps_of_server v p)) S t may_t.works.applies
 
       abbrev kept_then : Tree
       kept_then =
@@ -633,14 +656,14 @@ module _ (script : Script) (start : Tree) (firsts : ServerId → ℕ) (real : (v
 
       from_caused : HasOne (after_cause t.cause S) → HasOne (after_step t S)
       from_caused has =
-          from_decided (subst HasOne (sym (same_decisions t.applied (after_cause t.cause S)))
+          from_decided (subst HasOne (sym (same_decisions t.applied (after_cause t.cause S) none_moved))
           (keep_decides (decisions t.applied) kept_then (after_cause t.cause S) may_t.works.decides
           (λ y i. decided_applied t.applied y i) has))
 
       from_made : (w : Wanted) → In (IsWanted w) t.applied → w.host ≡ host → IsSame b w.request
           → HasOne (after_step t S)
       from_made w i h same =
-          from_decided (subst HasOne (sym (same_decisions t.applied (after_cause t.cause S)))
+          from_decided (subst HasOne (sym (same_decisions t.applied (after_cause t.cause S) none_moved))
           (made_decides (decisions t.applied) kept_then (after_cause t.cause S) may_t.works.decides
           (λ y i. decided_applied t.applied y i) w (want_decided t.applied w i) h same))
 
@@ -689,7 +712,8 @@ module _ (script : Script) (start : Tree) (firsts : ServerId → ℕ) (real : (v
           repeats : (d : DoneOf) → d.fileset ≡ c.fileset → d.bring.number ≡ c.number
               → HasWritten S host d ⊎ ((k : ℕ) × SentTo S host (epoch S) k (Done d)) → ⊥
           repeats d files numbers was =
-              let told = due_t.sent.repeats host m.moves c d (subst (TakenNow S t host m.moves) is taken) here files
+              let told = due_t.sent.repeats host m.moves c d (subst (TakenNow S t host m.moves) is taken)
+              (decided_here v S ((all (t ∷ l) p a.whole).at v).served.put c.fileset m.moves here) files
               numbers
               (λ e k o sent its. (let le = done_below e k o sent (its ∙ files) in omega (arith, le, numbers))) was in
               answer_none (Done told.0) told.1
@@ -752,7 +776,7 @@ module _ (script : Script) (start : Tree) (firsts : ServerId → ℕ) (real : (v
         takes_it lacks =
             let made = due_t.decided.news host m.moves (request_of b asks) (record {
               taken = subst (TakenNow S t host m.moves) (sym (body_is b asks)) taken;
-              here = asked_here v S m.moves b asks meant goes;
+              here = asked_here v S ((all (t ∷ l) p a.whole).at v).served.put m.moves b asks meant goes;
               fresh = fresh;
               alone = λ w q h both. from_caused
                   (λ j. j (

@@ -71,6 +71,8 @@ use Rattle.run_rules.specs.declared.applied.Applied.{Applied}
 use Rattle.run_rules.specs.declared.step.Cause.{Cause}
 use Rattle.run_rules.specs.declared.step.Cause.TheVariants.{End, Evict, Flushed, Freight, Lapse, Line, Message as Came}
 use Rattle.run_rules.specs.declared.step.Cause.TheVariants.{Restart}
+use Rattle.run_tokens.specs.Unmoved.{StaysPut}
+use Rattle.run_rules.specs.Doings.{shipping}
 use Rattle.run_rules.specs.declared.step.Step.{Step}
 
 -- what is applied stands in what the cause applies, or is decided
@@ -297,7 +299,7 @@ module _ (script : Script) (start : Tree) (firsts : ServerId → ℕ) (c : Conte
   legal_first : (x : Message) → s.cause ≡ Came x → LegalDoing c v D (first x) (tree c past)
   legal_first x cause =
       let rest = decided v s.cause (filesets_through s.cause (by_cause s.applied) K) (decisions s.applied)
-      ++ with_doing does_nothing (admitting s.admitted ++ (sending s.sent ++ (Reserves s.reserved ∷ []))) in
+      ++ with_doing does_nothing (admitting s.admitted ++ (sending s.sent ++ (shipping s.shipped ++ (Reserves s.reserved ∷ [])))) in
       let is : c.deeds past s ≡ first x ∷ rest =
       deeds_are
       ∙ ap (λ y. with_doing (does_first s.cause K (by_cause s.applied)) (doings_cause y S []) ++ rest) cause in
@@ -330,7 +332,7 @@ module _ (script : Script) (start : Tree) (firsts : ServerId → ℕ) (c : Conte
     g = given.0
 
     home_is : site g.fid ≡ v
-    home_is = made_at v S g.fid.fileset given.3.0.0 given.3.0.1
+    home_is = made_at v S g.fid.fileset given.3.0.0 (subst StaysPut doings_are at.put) given.3.0.1
 
     stored : (h ≡ x.host) × (fid ≡ g.fid) × (spans ≡ map span_of g.pieces) × (len ≡ g.length)
         × ((takes_gifts K g.fid && (nat_lt 0 (length g.pieces) || is_some g.length)) ≡ true)

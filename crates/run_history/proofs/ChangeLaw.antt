@@ -14,7 +14,7 @@ use Rattle.message_types.specs.declared.message.Body.{Body}
 use Rattle.script_lines.specs.declared.script.Script.{Script}
 use Rattle.token_types.specs.declared.token.Token.{Token}
 use Rattle.run_rules.specs.Doings.{Doing, Granted, after_cause, doings_of}
-use Rattle.run_rules.specs.Doings.Doing.{MakesWant, Took, WritesDown}
+use Rattle.run_rules.specs.Doings.Doing.{MakesWant, Moves, Took, WritesDown}
 use Rattle.run_rules.specs.Kept.{filesets_after, filesets_first, filesets_kept, filesets_through, is_refusal}
 use Rattle.run_rules.specs.Messages.{Said}
 use Rattle.run_rules.specs.Past.{Always, In}
@@ -63,7 +63,7 @@ each_map P Q cause to (Stored h f ss n ∷ xs) K S all =
     each_map P Q cause to xs (filesets_after cause K (Stored h f ss n)) S all
 each_map P Q cause to (IsDown h ∷ xs) K S all = each_map P Q cause to xs (filesets_after cause K (IsDown h)) S all
 each_map P Q cause to (IsMoved move ∷ xs) K S all =
-    each_map P Q cause to xs (filesets_after cause K (IsMoved move)) S all
+    each_map P Q cause to xs (filesets_after cause K (IsMoved move)) (Moves move ∷ S) all
 
 pub each_both : (P Q : List Doing → Tree → Written → Type 0) (cause : Cause) (xs : List Applied) (K : Tree) (S : List Doing)
     → EachChange P cause K S xs → EachChange Q cause K S xs → EachChange (λ S K x. P S K x × Q S K x) cause K S xs
@@ -76,7 +76,8 @@ each_both P Q cause (Replied x ∷ xs) K S a b = each_both P Q cause xs (fileset
 each_both P Q cause (Stored h f ss n ∷ xs) K S a b =
     each_both P Q cause xs (filesets_after cause K (Stored h f ss n)) S a b
 each_both P Q cause (IsDown h ∷ xs) K S a b = each_both P Q cause xs (filesets_after cause K (IsDown h)) S a b
-each_both P Q cause (IsMoved move ∷ xs) K S a b = each_both P Q cause xs (filesets_after cause K (IsMoved move)) S a b
+each_both P Q cause (IsMoved move ∷ xs) K S a b =
+    each_both P Q cause xs (filesets_after cause K (IsMoved move)) (Moves move ∷ S) a b
 
 module _ (script : Script) (start : Tree) (firsts : ServerId → ℕ) (past : List Step)
     (run : StepsMeet script start firsts past) (v : ServerId) (s : Step)

@@ -57,7 +57,7 @@ each_map P Q cause ys to K S (Stored h f spans n ∷ xs) within p =
 each_map P Q cause ys to K S (IsDown h ∷ xs) within p =
     each_map P Q cause ys to K S xs (λ a i. within a (inr i)) p
 each_map P Q cause ys to K S (IsMoved move ∷ xs) within p =
-    each_map P Q cause ys to K S xs (λ a i. within a (inr i)) p
+    each_map P Q cause ys to K (appended (decisions_of (IsMoved move)) S) xs (λ a i. within a (inr i)) p
 
 -- what is decided is applied
 pub in_decided : (xs : List Applied) (a : Applied) → In a (decisions xs) → In a xs

@@ -21,6 +21,7 @@ use Rattle.run_parts.specs.Legal.{Cells, ContentsRun, StepShows, cells_after, se
 use Rattle.run_contents.proofs.DeedSteps.{runs_meet}
 use Rattle.run_contents.proofs.Uses.{run_tokens}
 use Rattle.run_tokens.proofs.Invariant.{Alone}
+use Rattle.run_tokens.specs.Unmoved.{MovesNone}
 use Rattle.run_rules.specs.declared.step.Step.{Step}
 
 module _ (c : Contents) (own_of : HostId → List Step) (alone : (h : HostId) → Alone (own_of h))
@@ -55,17 +56,17 @@ module _ (c : Contents) (own_of : HostId → List Step) (alone : (h : HostId) �
       (granted_now D cells x, each_granted more (d ∷ D) (cells_after d cells) next may.1 rules.1)
 
 module _ (c : Contents) (firsts : ServerId → ℕ) where
-  at_node : (n : Node) (past : List Step) (s : Step) → Kept c firsts past → StepMay firsts n past s
+  at_node : (n : Node) (past : List Step) (s : Step) → Kept c firsts past → StepMay firsts n past s → MovesNone s
       → StepShows c firsts n past s → (v : ServerId) → n ≡ Server v
       → EachGranted v (c.deeds past s) (served c (firsts v) v past) (tree c past)
-  at_node (Host h) past s old may rules v e = cc
-  at_node (Server k) past s old may rules v e =
+  at_node (Host h) past s old may none rules v e = cc
+  at_node (Server k) past s old may none rules v e =
       let same : k ≡ v = let q : Server k ≡ Server v = e in cc in
       subst (λ w. EachGranted w (c.deeds past s) (served c (firsts w) w past) (tree c past)) same
       (each_granted c (λ h. steps_of_host h past) old.whole.alone old.seen k (c.deeds past s) (served c (firsts k) k past)
       (tree c past) (old.at k)
       (subst (λ l. EachInTurn (Next (λ h. steps_of_host h past) k) l (acts_in (served c (firsts k) k past))) (sym rules.0)
-      (each_next (λ h. steps_of_host h past) old.whole.alone k s (acts_in (served c (firsts k) k past))
+      (each_next (λ h. steps_of_host h past) old.whole.alone k s (acts_in (served c (firsts k) k past)) none
       (subst (λ S. ServerStep k S s) (sym (old.same k)) may.0) (λ m e. (may.1 m e).2))) rules.1)
 
   all_granted : (past : List Step) → IsTokenRun firsts past → ContentsRun c firsts past
@@ -74,7 +75,7 @@ module _ (c : Contents) (firsts : ServerId → ℕ) where
   all_granted [] tokens rules = tt
   all_granted (s ∷ past) tokens rules = (
     all_granted past tokens.0 rules.0,
-    at_node s.node past s (coherent c firsts past tokens.0 rules.0).0 tokens.1 rules.1,
+    at_node s.node past s (coherent c firsts past tokens.0 rules.0).0 tokens.1 tokens.3 rules.1,
   )
 
 pub unsaved_is_granted : UnsavedIsGranted

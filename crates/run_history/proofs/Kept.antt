@@ -28,7 +28,7 @@ use Rattle.run_history.proofs.Keeping.{all_mapped, filter_mapped, filter_some, i
 use Rattle.run_history.proofs.Moves.{never_after, never_moved}
 use Rattle.run_contents.proofs.Keeping.{split}
 use Rattle.run_rules.specs.Doings.{Doing, after_cause, doings_of}
-use Rattle.run_rules.specs.Doings.Doing.{MakesWant, WritesDown}
+use Rattle.run_rules.specs.Doings.Doing.{MakesWant, Moves, WritesDown}
 use Rattle.run_rules.specs.Kept.{content_given, filesets_after, filesets_kept, filesets_through, is_refusal, pieces_in}
 use Rattle.run_rules.specs.Kept.{takes_gifts, tree_given}
 use Rattle.run_rules.specs.Past.{Always}
@@ -133,7 +133,7 @@ decided_unmoved v cause (Stored h f ss n ∷ xs) S K meant e =
     (given_unmoved K f (pieces_in cause) n e)
 decided_unmoved v cause (Replied x ∷ xs) S K meant e = decided_unmoved v cause xs S K meant e
 decided_unmoved v cause (IsDown h ∷ xs) S K meant e = decided_unmoved v cause xs S K meant e
-decided_unmoved v cause (IsMoved move ∷ xs) S K meant e = decided_unmoved v cause xs S K meant e
+decided_unmoved v cause (IsMoved move ∷ xs) S K meant e = decided_unmoved v cause xs (Moves move ∷ S) K meant e
 
 -- what servers keep
 module _ (start : Tree) (firsts : ServerId → ℕ) (first : Unmoved start) where

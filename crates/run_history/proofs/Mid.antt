@@ -1,5 +1,5 @@
 -- What is so of labels within a server's step: once its cause is taken, and after each decision.
-use Rattle.std.proofs.Common.{List, inl, inr, refl, subst, ℕ, ◌++◌, ◌<◌, ◌∷◌, ◌≡◌}
+use Rattle.std.proofs.Common.{List, false, inl, inr, refl, subst, ℕ, ◌++◌, ◌<◌, ◌∷◌, ◌≡◌}
 use Rattle.std.specs.Prelude.{[]}
 use Rattle.base_types.specs.declared.ids.HostId.{HostId}
 use Rattle.base_types.specs.declared.ids.Node.TheVariants.{Server}
@@ -34,17 +34,21 @@ use Rattle.run_history.proofs.UseCausing.{of_cause, to_cause}
 use Rattle.run_history.proofs.ServerStep.{met}
 use Rattle.run_history.proofs.State.{LockedNow, all, whole}
 use Rattle.run_history.proofs.Waiting.{AllFresh, cause_sent, causes as causes_fresh, fresh_now, wanted as wanted_fresh}
+use Rattle.run_tokens.specs.Unmoved.{MovesNone, is_move}
+use Rattle.run_tokens.proofs.TokenRun.{none_moves}
+use Rattle.std.specs.List.{list_any}
+use Rattle.run_rules.specs.Doings.{shipping}
 use Rattle.run_history.proofs.Waiting.{written_down as written_fresh}
 
 -- the decisions alone are doings of their own
-same_deciding : (xs : List Applied) → deciding xs ≡ deciding (decisions xs)
-same_deciding [] = refl
-same_deciding (IsWanted x ∷ xs) = refl
-same_deciding (IsDone x ∷ xs) = refl
-same_deciding (Replied x ∷ xs) = same_deciding xs
-same_deciding (Stored h f ss n ∷ xs) = same_deciding xs
-same_deciding (IsDown h ∷ xs) = same_deciding xs
-same_deciding (IsMoved move ∷ xs) = same_deciding xs
+same_deciding : (xs : List Applied) → list_any is_move xs ≡ false → deciding xs ≡ deciding (decisions xs)
+same_deciding [] none = refl
+same_deciding (IsWanted x ∷ xs) none = refl
+same_deciding (IsDone x ∷ xs) none = refl
+same_deciding (Replied x ∷ xs) none = same_deciding xs none
+same_deciding (Stored h f ss n ∷ xs) none = same_deciding xs none
+same_deciding (IsDown h ∷ xs) none = same_deciding xs none
+same_deciding (IsMoved move ∷ xs) none = absurd (cc)
 
 module _ (script : Script) (start : Tree) (firsts : ServerId → ℕ) (real : (v : ServerId) → 0 < firsts v)
     (past : List Step) (s : Step) (run : StepsMeet script start firsts (s ∷ past)) (v : ServerId)
@@ -90,7 +94,7 @@ module _ (script : Script) (start : Tree) (firsts : ServerId → ℕ) (real : (v
   none_writes D x h u (inr (g, (t, fresh), gives)) = let q = t.2.0 in cc
 
   abbrev rest : List Doing
-  rest = admitting s.admitted ++ (sending s.sent ++ (Reserves s.reserved ∷ []))
+  rest = admitting s.admitted ++ (sending s.sent ++ (shipping s.shipped ++ (Reserves s.reserved ∷ [])))
 
   -- once the cause is taken
   taken_next : (c : Cause) (more : List Doing) → EachInTurn (Next own_of v) (doings_cause c S more) S
@@ -101,7 +105,7 @@ module _ (script : Script) (start : Tree) (firsts : ServerId → ℕ) (real : (v
   taken_next (Line line) more each at = (at, each)
   taken_next Lapse more each at = (at, each)
   taken_next Evict more each at = (at, each)
-  taken_next (Freight freight) more each at = (at, each)
+  taken_next (Freight freight) more each at = (each.0.next at, each.1)
   taken_next End more each at = (at, each)
 
   serve_them : (h : HostId) (todo : List Doing) → EachInTurn (Next own_of v) todo S
@@ -122,7 +126,7 @@ module _ (script : Script) (start : Tree) (firsts : ServerId → ℕ) (real : (v
   taken_uses (Line line) more each h = serve_them h [] tt
   taken_uses Lapse more each h = serve_them h [] tt
   taken_uses Evict more each h = serve_them h [] tt
-  taken_uses (Freight freight) more each h = serve_them h [] tt
+  taken_uses (Freight freight) more each h = serve_them h (doings_cause (Freight freight) S []) (each.0, tt)
   taken_uses End more each h = serve_them h [] tt
 
   issued_past : (c : Cause) (t : Token) (x : StayStamp) → Issued S t x → Issued (after_cause c S) t x
@@ -132,15 +136,18 @@ module _ (script : Script) (start : Tree) (firsts : ServerId → ℕ) (real : (v
   issued_past (Line line) t x i = i
   issued_past Lapse t x i = i
   issued_past Evict t x i = i
-  issued_past (Freight freight) t x i = i
+  issued_past (Freight freight) t x i = inr i
   issued_past End t x i = i
 
   m : StepMeets script start firsts (Server v) past s
   m = met script start firsts real past s run v node
 
+  none_moved : MovesNone s
+  none_moved = none_moves script start firsts (Server v) past s m
+
   nexts : EachInTurn (Next own_of v) (doings s S) S
   nexts =
-      each_next own_of (whole script start firsts real past run.0).alone v s S m.0.tokens (λ x e. (m.1 x e).2)
+      each_next own_of (whole script start firsts real past run.0).alone v s S none_moved m.0.tokens (λ x e. (m.1 x e).2)
 
   first : Mid (after_cause s.cause S)
   first = record {
@@ -181,6 +188,6 @@ module _ (script : Script) (start : Tree) (firsts : ServerId → ℕ) (real : (v
   each_mid =
       walk (decisions s.applied) (filesets_through s.cause (by_cause s.applied) (filesets_kept start v (steps_of_server v past)))
       (after_cause s.cause S) m.0.works.decides
-      (subst (λ ds. EachInTurn (Next own_of v) (ds ++ rest) (after_cause s.cause S)) (same_deciding s.applied)
+      (subst (λ ds. EachInTurn (Next own_of v) (ds ++ rest) (after_cause s.cause S)) (same_deciding s.applied none_moved)
       (taken_next s.cause (deciding s.applied ++ rest) nexts
       ((whole script start firsts real past run.0).at v)).1) first

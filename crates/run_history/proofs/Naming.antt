@@ -54,6 +54,9 @@ use Rattle.run_history.proofs.Asking.{all_well, told_by}
 use Rattle.run_history.proofs.Sending.{AllSent, Good, after_sends}
 use Rattle.run_history.specs.Asked.{AsksRightly}
 use Rattle.run_history.specs.Asked.AsksRightly.{Decides, Enters as AsksToEnter, Moves}
+use Rattle.run_tokens.proofs.Ships.{once_shipped}
+use Rattle.run_rules.specs.declared.step.Cause.TheVariants.{Freight}
+use Rattle.run_rules.specs.Doings.{after_sending}
 use Rattle.run_history.specs.Names.{NamesAreKnown, NamesGoOn, NamesStand, NamesStartSo}
 
 -- what was sent stays so, and what was said
@@ -66,14 +69,16 @@ module _ (h : HostId) (e n : ℕ) (b : Body) where
   cause_keeps (Came m) S o = inr o
   cause_keeps (Restart line) S o = inr o
   cause_keeps Flushed S o = inr o
+  cause_keeps (Freight freight) S o = inr o
   cause_keeps _ S o = o
 
   step_keeps : (s : Step) (S : List Doing) → SentTo S h e n b → SentTo (after_step s S) h e n b
   step_keeps s S o =
-      inr (once_after (λ before a. a ≡ Sent h e n b) (sending s.sent) (after_admitting s S)
+      inr (once_shipped (λ before a. a ≡ Sent h e n b) s.shipped (after_sending s S)
+      (once_after (λ before a. a ≡ Sent h e n b) (sending s.sent) (after_admitting s S)
       (once_after (λ before a. a ≡ Sent h e n b) (admitting s.admitted) (after_deciding s S)
       (once_after (λ before a. a ≡ Sent h e n b) (deciding s.applied) (after_cause s.cause S)
-      (cause_keeps s.cause S o))))
+      (cause_keeps s.cause S o)))))
 
   node_keeps : (k : Node) (s : Step) (v : ServerId) (S : List Doing) → SentTo S h e n b
       → SentTo (acts_after v k s S) h e n b

@@ -12,6 +12,7 @@ use Rattle.script_lines.specs.declared.script.Script.{Script}
 use Rattle.tree_laws.proofs.Steps.{same_number}
 use Rattle.tree_laws.specs.Parts.{Cell, Part, Seen}
 use Rattle.run_rules.specs.Doings.{Doing, admitting, doings_of, epoch, sending}
+use Rattle.run_rules.specs.Doings.Doing.{Gets}
 use Rattle.run_rules.specs.Doings.Doing.{BeginsEpoch, Flushes, Reserves, Took}
 use Rattle.run_rules.specs.Kept.{filesets_kept, filesets_through}
 use Rattle.run_rules.specs.Runs.{StepMeets, StepsMeet}
@@ -35,6 +36,7 @@ use Rattle.run_rules.specs.declared.applied.Applied.{Applied}
 use Rattle.run_rules.specs.declared.step.Cause.{Cause}
 use Rattle.run_rules.specs.declared.step.Cause.TheVariants.{End, Evict, Flushed, Freight, Lapse, Line, Message as Came}
 use Rattle.run_rules.specs.declared.step.Cause.TheVariants.{Restart}
+use Rattle.run_rules.specs.Doings.{shipping}
 use Rattle.run_rules.specs.declared.step.Step.{Step}
 
 -- deeds one after the other
@@ -95,7 +97,7 @@ module _ (script : Script) (start : Tree) (firsts : ServerId → ℕ) (c : Conte
   first_does = does_first s.cause K (by_cause s.applied)
 
   abbrev tail : List Doing
-  tail = admitting s.admitted ++ (sending s.sent ++ (Reserves s.reserved ∷ []))
+  tail = admitting s.admitted ++ (sending s.sent ++ (shipping s.shipped ++ (Reserves s.reserved ∷ [])))
 
   abbrev rest : List Deed
   rest = decided v s.cause caused (decisions s.applied) ++ with_doing does_nothing tail
@@ -131,7 +133,7 @@ module _ (script : Script) (start : Tree) (firsts : ServerId → ℕ) (c : Conte
       go (Line line) e = none (Line line) e (λ m q. cc)
       go Lapse e = none Lapse e (λ m q. cc)
       go Evict e = none Evict e (λ m q. cc)
-      go (Freight freight) e = none (Freight freight) e (λ m q. cc)
+      go (Freight freight) e = one (Gets freight.server freight.moves freight.body)
       go End e = none End e (λ m q. cc)
 
   -- the cells after the step
@@ -170,8 +172,9 @@ module _ (script : Script) (start : Tree) (firsts : ServerId → ℕ) (c : Conte
       present =
           first_present c v rest (first ∷ D) (cells_after first (tree c past))
           (filled_last (decided v s.cause caused (decisions s.applied)) (with_doing does_nothing tail)
-          (filled_map _ tail (filled_last (admitting s.admitted) (sending s.sent ++ (Reserves s.reserved ∷ []))
-          (filled_last (sending s.sent) (Reserves s.reserved ∷ []) refl))))
+          (filled_map _ tail (filled_last (admitting s.admitted) (sending s.sent ++ (shipping s.shipped ++ (Reserves s.reserved ∷ [])))
+          (filled_last (sending s.sent) (shipping s.shipped ++ (Reserves s.reserved ∷ []))
+          (filled_last (shipping s.shipped) (Reserves s.reserved ∷ []) refl)))))
           (subst (λ ds. LegalDoings c v ds D (tree c past)) shape legal).2
 
       came : (f : Fid) (p : Part) → site f ≡ v → (cells_then f p).kept ≡ kept_view caused f p

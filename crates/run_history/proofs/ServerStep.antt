@@ -173,7 +173,7 @@ module _ (script : Script) (start : Tree) (firsts : ServerId → ℕ) (real : (v
       (rules script start firsts real past run.0) h u l (locked_live script start firsts real past run.0 h u l)).0 in
       let i = at.served.owed_issued u.token o in
       made_at u.token.id.server (doings_of (firsts u.token.id.server) u.token.id.server past) u.token.fid.fileset i.0.moves
-      (at.served.at u.token i.0 i.1)
+      at.served.put (at.served.at u.token i.0 i.1)
 
   use_kind : (h : HostId) (u : Labelled) → Old h u → IsUse u.token.kind
   use_kind h u l =
@@ -227,7 +227,7 @@ module _ (script : Script) (start : Tree) (firsts : ServerId → ℕ) (real : (v
 
     server_is : (i : TokenId) → In i g.ids → i.server ≡ v
     server_is i j =
-        let here = made_at v S g.fid.fileset first.0.0 first.0.2 in
+        let here = made_at v S g.fid.fileset first.0.0 ((whole script start firsts real past run.0).at v).served.put first.0.2 in
         let there = (((whole script start firsts real past run.0).at i.server).link h).made_id g i made j refl in
         sym there ∙ here
 

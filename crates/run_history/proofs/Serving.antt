@@ -62,6 +62,8 @@ use Rattle.run_contents.specs.Gives.{IsKept}
 use Rattle.run_rules.specs.declared.applied.Answer.{Answer}
 use Rattle.run_rules.specs.declared.applied.Applied.{Applied}
 use Rattle.run_rules.specs.declared.step.Cause.TheVariants.{Message as Came}
+use Rattle.run_tokens.proofs.TokenRun.{stays_put}
+use Rattle.run_tokens.proofs.Words.{made_at}
 use Rattle.run_rules.specs.declared.step.Step.{Step}
 
 -- as a statement on each fileset
@@ -345,6 +347,8 @@ module _ (script : Script) (start : Tree) (firsts : ServerId → ℕ) (c : Conte
       where
         by : CauseIs v (doings_of (firsts v) v past) K s → Leaves (by_cause s.applied)
         by (Gives x g cause body first e) =
-            leaves_given x g cause body (ap (λ (z : Stay). z.server) first.0.2) ends_legal e
+            leaves_given x g cause body
+            (made_at v (doings_of (firsts v) v past) g.fid.fileset first.0.0 (stays_put script start firsts past run v)
+            first.0.2) ends_legal e
         by (Downs h e) = subst Leaves (sym e) (leaves_down h e)
         by (AppliesNone e) = subst Leaves (sym e) (tt, on_still [] e (λ f p. refl))

@@ -23,7 +23,9 @@ use Rattle.script_lines.specs.declared.script.Script.{Script}
 use Rattle.tree_laws.specs.Parts.Part.{ByteAt}
 use Rattle.run_rules.specs.Doings.{Doing, SentTo, admitting, after_admitting, after_cause, after_deciding, after_step}
 use Rattle.run_rules.specs.Doings.{deciding, doings_of, epoch, sending}
-use Rattle.run_rules.specs.Doings.Doing.{Admits, BeginsEpoch, Flushes, MakesWant, Reserves, Sent, Took, WritesDown}
+use Rattle.run_rules.specs.Doings.Doing.{Gets}
+use Rattle.run_rules.specs.Doings.Doing.{Admits, BeginsEpoch, Flushes, MakesWant, Moves, Reserves, Sent, Took}
+use Rattle.run_rules.specs.Doings.Doing.{WritesDown}
 use Rattle.run_rules.specs.HostMay.{HostMay}
 use Rattle.run_rules.specs.Past.{In, appended}
 use Rattle.run_rules.specs.Runs.{StepMeets, StepsMeet}
@@ -41,6 +43,9 @@ use Rattle.run_rules.specs.declared.applied.Applied.{Applied}
 use Rattle.run_rules.specs.declared.step.Cause.{Cause}
 use Rattle.run_rules.specs.declared.step.Cause.TheVariants.{End, Evict, Flushed, Freight, Lapse, Line, Message as Came}
 use Rattle.run_rules.specs.declared.step.Cause.TheVariants.{Restart}
+use Rattle.run_tokens.proofs.Ships.{ships_keep}
+use Rattle.run_rules.specs.Doings.Doing.{Puts}
+use Rattle.run_rules.specs.Doings.{after_sending, after_shipping}
 use Rattle.run_rules.specs.declared.step.Step.{Step}
 
 -- a sound message with a body
@@ -81,7 +86,7 @@ module _ (script : Script) (h : HostId) (e n : ℕ) (b : Body) where
   writes (Replied x ∷ xs) S old = writes xs S old
   writes (Stored k f ss l ∷ xs) S old = writes xs S old
   writes (IsDown k ∷ xs) S old = writes xs S old
-  writes (IsMoved move ∷ xs) S old = writes xs S old
+  writes (IsMoved move ∷ xs) S old = writes xs (Moves move ∷ S) (other S (Moves move) (λ q. cc) old)
 
   causes : (c : Cause) (S : List Doing) → AllSound S → AllSound (after_cause c S)
   causes (Came m) S old = other S (Took m.host m.epoch m.moves m.body) (λ q. cc) old
@@ -90,15 +95,16 @@ module _ (script : Script) (h : HostId) (e n : ℕ) (b : Body) where
   causes (Line line) S old = old
   causes Lapse S old = old
   causes Evict S old = old
-  causes (Freight freight) S old = old
+  causes (Freight freight) S old = other S (Gets freight.server freight.moves freight.body) (λ q. cc) old
   causes End S old = old
 
   steps : (s : Step) (S : List Doing) → ((m : Message) → In m s.sent → IsSound script.roster m) → AllSound S
       → AllSound (after_step s S)
   steps s S sound old =
-      other (appended (sending s.sent) (after_admitting s S)) (Reserves s.reserved) (λ q. cc)
+      other (after_shipping s S) (Reserves s.reserved) (λ q. cc)
+      (ships_keep AllSound (λ T to k c was. other T (Puts to k c) (λ q. cc) was) s.shipped (after_sending s S)
       (sents s.sent (after_admitting s S) sound
-      (admits s.admitted (after_deciding s S) (writes s.applied (after_cause s.cause S) (causes s.cause S old))))
+      (admits s.admitted (after_deciding s S) (writes s.applied (after_cause s.cause S) (causes s.cause S old)))))
 
   module _ (start : Tree) (firsts : ServerId → ℕ) (v : ServerId) where
     at_node : (k : Node) (s : Step) (S : List Doing) → ((m : Message) → In m s.sent → IsSound script.roster m)

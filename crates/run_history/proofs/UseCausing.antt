@@ -15,7 +15,9 @@ use Rattle.run_parts.specs.Uses.{Frees, FreesAny}
 use Rattle.run_contents.proofs.Bodies.{cases_nat, here, is_down, is_give, live}
 use Rattle.run_contents.proofs.Caused.{no_message}
 use Rattle.run_rules.specs.Doings.{Doing, HasGoneDown, Here, IsApplied, IsLive, admitting, deciding, epoch, sending}
-use Rattle.run_rules.specs.Doings.Doing.{Admits, BeginsEpoch, Flushes, MakesWant, Reserves, Sent, Took, WritesDown}
+use Rattle.run_rules.specs.Doings.Doing.{Gets}
+use Rattle.run_rules.specs.Doings.Doing.{Admits, BeginsEpoch, Flushes, MakesWant, Moves, Reserves, Sent, Took}
+use Rattle.run_rules.specs.Doings.Doing.{WritesDown}
 use Rattle.run_rules.specs.Past.{In}
 use Rattle.run_rules.specs.ServerDecides.{FirstDown, FirstGiven, ServerApplies, by_cause, decisions, is_decision}
 use Rattle.run_rules.specs.Tokens.{number_of}
@@ -28,6 +30,8 @@ use Rattle.run_rules.specs.declared.step.Cause.{Cause}
 use Rattle.run_rules.specs.declared.step.Cause.TheVariants.{End, Evict, Flushed, Freight, Lapse, Line, Message as Came}
 use Rattle.run_rules.specs.declared.step.Cause.TheVariants.{Restart}
 use Rattle.run_rules.specs.declared.step.Labelled.{Labelled}
+use Rattle.run_rules.specs.Doings.Doing.{Puts}
+use Rattle.run_rules.specs.Doings.{shipped_by_body, shipping}
 use Rattle.run_rules.specs.declared.step.Step.{Step}
 
 -- the cause alone frees uses
@@ -45,6 +49,12 @@ module _ (v : ServerId) (h : HostId) (u : Labelled) where
 
   kept_none : (ts : _) → None (Reserves ts ∷ [])
   kept_none ts = one_less (Reserves ts) [] (λ e n b q. cc) (λ S f. elim f [ ])
+
+  ships_none : (ms : List Message) (more : List Doing) → None more → None (shipping ms ++ more)
+  ships_none [] more rest = rest
+  ships_none (m ∷ ms) more rest =
+      one_less (Puts (shipped_by_body m.body m.server) m.moves m.body) (shipping ms ++ more) (λ e n b q. cc)
+      (ships_none ms more rest)
 
   sents_none : (ms : List Message) (more : List Doing) → None more → None (sending ms ++ more)
   sents_none [] more rest = rest
@@ -65,15 +75,16 @@ module _ (v : ServerId) (h : HostId) (u : Labelled) where
   writes_none (Replied x ∷ xs) more rest = writes_none xs more rest
   writes_none (Stored k f ss n ∷ xs) more rest = writes_none xs more rest
   writes_none (GoesDown k ∷ xs) more rest = writes_none xs more rest
-  writes_none (IsMoved move ∷ xs) more rest = writes_none xs more rest
+  writes_none (IsMoved move ∷ xs) more rest =
+      one_less (Moves move) (deciding xs ++ more) (λ e n b q. cc) (writes_none xs more rest)
 
   module _ (s : Step) (S : List Doing) where
     abbrev more : List Doing
-    more = deciding s.applied ++ (admitting s.admitted ++ (sending s.sent ++ (Reserves s.reserved ∷ [])))
+    more = deciding s.applied ++ (admitting s.admitted ++ (sending s.sent ++ (shipping s.shipped ++ (Reserves s.reserved ∷ []))))
 
     none_more : None more
     none_more =
-        writes_none s.applied _ (admits_none s.admitted _ (sents_none s.sent _ (kept_none s.reserved)))
+        writes_none s.applied _ (admits_none s.admitted _ (sents_none s.sent _ (ships_none s.shipped _ (kept_none s.reserved))))
 
     by_message : (c : Cause) → FreesAny v (doings_cause c S more) S h u
         → (m : Message) × (c ≡ Came m) × Frees v S (Took m.host m.epoch m.moves m.body) h u
@@ -84,7 +95,7 @@ module _ (v : ServerId) (h : HostId) (u : Labelled) where
     by_message (Line line) f = absurd (none_more S f)
     by_message Lapse f = absurd (none_more S f)
     by_message Evict f = absurd (none_more S f)
-    by_message (Freight freight) f = absurd (none_more S f)
+    by_message (Freight freight) f = absurd (one_less (Gets freight.server freight.moves freight.body) more (λ e n b q. cc) none_more S f)
     by_message End f = absurd (none_more S f)
 
     pub frees_is : FreesAny v (doings s S) S h u
@@ -109,7 +120,8 @@ module _ (v : ServerId) (h : HostId) (u : Labelled) where
         go (Line line) f = absurd (none_more S f)
         go Lapse f = absurd (none_more S f)
         go Evict f = absurd (none_more S f)
-        go (Freight freight) f = absurd (none_more S f)
+        go (Freight freight) (inl f) = inl f
+        go (Freight freight) (inr f) = absurd (none_more (Gets freight.server freight.moves freight.body ∷ S) f)
         go End f = absurd (none_more S f)
 
     pub of_cause : FreesAny v (doings_cause s.cause S []) S h u → FreesAny v (doings s S) S h u
@@ -125,7 +137,8 @@ module _ (v : ServerId) (h : HostId) (u : Labelled) where
         go (Line line) f = elim f [ ]
         go Lapse f = elim f [ ]
         go Evict f = elim f [ ]
-        go (Freight freight) f = elim f [ ]
+        go (Freight freight) (inl f) = inl f
+        go (Freight freight) (inr f) = elim f [ ]
         go End f = elim f [ ]
 
 one_message : (c : Cause) (m n : Message) → c ≡ Came m → c ≡ Came n → m ≡ n
@@ -225,7 +238,7 @@ module _ (v : ServerId) (S : List Doing) (tree : Tree) (s : Step) (k : ServerApp
             absurd (some (no_message v S tree s k (λ m q. (let r : Line line ≡ Came m = sym e ∙ q in cc))))
         go Lapse e = absurd (some (no_message v S tree s k (λ m q. (let r : Lapse ≡ Came m = sym e ∙ q in cc))))
         go Evict e = absurd (some (no_message v S tree s k (λ m q. (let r : Evict ≡ Came m = sym e ∙ q in cc))))
-        go (Freight freight) e = absurd (some (no_message v S tree s k (λ m q. (let r : Freight freight ≡ Came m = sym e ∙ q in cc))))
+        go (Freight freight) e = absurd (some (no_message v S tree s k (λ m q. (let r : (Freight freight) ≡ Came m = sym e ∙ q in cc))))
         go End e = absurd (some (no_message v S tree s k (λ m q. (let r : End ≡ Came m = sym e ∙ q in cc))))
 
 -- the end of a use stands before what is decided

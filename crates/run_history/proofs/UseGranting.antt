@@ -12,13 +12,15 @@ use Rattle.script_lines.specs.declared.script.Script.{Script}
 use Rattle.tree_laws.proofs.Steps.{same_number}
 use Rattle.tree_laws.specs.Parts.{Cell, Part, Seen}
 use Rattle.run_rules.specs.Doings.{Doing, admitting, after_cause, doings_of, epoch, sending}
-use Rattle.run_rules.specs.Doings.Doing.{BeginsEpoch, Flushes, MakesWant, Reserves, Took, WritesDown}
+use Rattle.run_rules.specs.Doings.Doing.{Gets}
+use Rattle.run_rules.specs.Doings.Doing.{BeginsEpoch, Flushes, MakesWant, Moves, Reserves, Took, WritesDown}
 use Rattle.run_rules.specs.Kept.{filesets_after, filesets_kept, filesets_through}
 use Rattle.run_rules.specs.Past.{Always}
 use Rattle.run_rules.specs.Runs.{IsRun, StepMeets, StepsMeet, firsts_of, past_of}
 use Rattle.run_rules.specs.ServerDecides.{by_cause, decisions, is_decision}
 use Rattle.run_rules.specs.Steps.{steps_of_server}
-use Rattle.run_rules.specs.declared.applied.Applied.TheVariants.{Done as IsDone, Stored, Wants as IsWanted}
+use Rattle.run_rules.specs.declared.applied.Applied.TheVariants.{Done as IsDone, Moves as IsMoved, Stored}
+use Rattle.run_rules.specs.declared.applied.Applied.TheVariants.{Wants as IsWanted}
 use Rattle.run_parts.specs.Doings.{doings_cause}
 use Rattle.run_history.proofs.Granting.{unsaved_is_granted}
 use Rattle.run_history.specs.Agreement.{CausedCells}
@@ -39,6 +41,7 @@ use Rattle.run_rules.specs.declared.step.Cause.{Cause}
 use Rattle.run_rules.specs.declared.step.Cause.TheVariants.{End, Evict, Flushed, Freight, Lapse, Line, Message as Came}
 use Rattle.run_rules.specs.declared.step.Cause.TheVariants.{Restart}
 use Rattle.run_rules.specs.declared.step.Step.{Step}
+use Rattle.run_rules.specs.Doings.{shipping}
 use Rattle.run_history.specs.UseGranted.{CellsWritten, DecidesGranted, DecisionsAreGranted, GrantedThrough}
 
 module _ (v : ServerId) (cause : Cause) where
@@ -62,6 +65,7 @@ module _ (v : ServerId) (cause : Cause) where
   same_through (IsWanted x ∷ xs) K S a b same g = same_through xs K (MakesWant x ∷ S) a b same g
   same_through (Stored h f ss n ∷ xs) K S a b same g =
       same_through xs (filesets_after cause K (Stored h f ss n)) S a b same g
+  same_through (IsMoved move ∷ xs) K S a b same g = same_through xs K (Moves move ∷ S) a b same g
   same_through (_ ∷ xs) K S a b same g = same_through xs K S a b same g
 
   -- the decisions among the deeds of a step
@@ -107,7 +111,7 @@ module _ (v : ServerId) (cause : Cause) where
     from_cause (Line line) g none = bare g (none (λ m q. cc))
     from_cause Lapse g none = bare g (none (λ m q. cc))
     from_cause Evict g none = bare g (none (λ m q. cc))
-    from_cause (Freight freight) g none = bare g (none (λ m q. cc))
+    from_cause (Freight freight) g none = one (Gets freight.server freight.moves freight.body) g
     from_cause End g none = bare g (none (λ m q. cc))
 
 module _ (script : Script) (journal : Journal) (run : IsRun script journal) (c : Contents)
@@ -146,7 +150,7 @@ module _ (script : Script) (journal : Journal) (run : IsRun script journal) (c :
     does = does_first s.cause K (by_cause s.applied)
 
     abbrev rest : List Deed
-    rest = with_doing does_nothing (admitting s.admitted ++ (sending s.sent ++ (Reserves s.reserved ∷ [])))
+    rest = with_doing does_nothing (admitting s.admitted ++ (sending s.sent ++ (shipping s.shipped ++ (Reserves s.reserved ∷ []))))
 
     m : StepMeets script start firsts (Server v) past s
     m = subst (λ n. StepMeets script start firsts n past s) e meets

@@ -14,7 +14,7 @@ use Rattle.script_lines.specs.declared.script.Script.{Script}
 use Rattle.need_laws.specs.Idle.{minds_uses}
 use Rattle.need_laws.specs.Known.{IsAt}
 use Rattle.run_rules.specs.Doings.{Doing, after_cause, doings_of}
-use Rattle.run_rules.specs.Doings.Doing.{MakesWant, WritesDown}
+use Rattle.run_rules.specs.Doings.Doing.{MakesWant, Moves, WritesDown}
 use Rattle.run_rules.specs.Kept.{filesets_after, filesets_first, filesets_kept, filesets_through}
 use Rattle.run_rules.specs.Past.{Always, In}
 use Rattle.run_rules.specs.Runs.{StepsMeet, firsts_of, past_of}
@@ -64,7 +64,7 @@ each_in P cause (IsDown h ∷ xs) K D all x (inl e) = cc
 each_in P cause (IsMoved move ∷ xs) K D all x (inl e) = cc
 each_in P cause (IsDown h ∷ xs) K D all x (inr i) = each_in P cause xs (filesets_after cause K (IsDown h)) D all x i
 each_in P cause (IsMoved move ∷ xs) K D all x (inr i) =
-    each_in P cause xs (filesets_after cause K (IsMoved move)) D all x i
+    each_in P cause xs (filesets_after cause K (IsMoved move)) (Moves move ∷ D) all x i
 
 -- what is written down is decided
 done_decided : (x : Written) (xs : List Applied) → In (IsDone x) xs → In (IsDone x) (decisions xs)

@@ -13,8 +13,10 @@ use Rattle.message_types.specs.declared.message.Body.TheVariants.{Change, Done}
 use Rattle.message_types.specs.declared.message.Message.{Message}
 use Rattle.message_types.specs.declared.telling.Done.{Done as DoneOf}
 use Rattle.script_lines.specs.declared.script.Script.{Script}
+use Rattle.run_rules.specs.Doings.{after_shipping}
 use Rattle.run_rules.specs.Doings.{Doing, SentTo, admitting, after_admitting, after_cause, after_deciding}
 use Rattle.run_rules.specs.Doings.{after_sending, after_step, deciding, doings_of, epoch, sending}
+use Rattle.run_rules.specs.Doings.Doing.{Gets, Puts}
 use Rattle.run_rules.specs.Doings.Doing.{Admits, BeginsEpoch, Flushes, MakesWant, Reserves, Sent, Took, WritesDown}
 use Rattle.run_rules.specs.Kept.{filesets_after, filesets_kept, filesets_through}
 use Rattle.run_rules.specs.Messages.{Changing, ComesIn, DoneComes, Said, Stay, epoch_at, epoch_raised, epoch_raised_by}
@@ -42,6 +44,9 @@ use Rattle.run_rules.specs.declared.step.Cause.{Cause}
 use Rattle.run_rules.specs.declared.step.Cause.TheVariants.{End, Evict, Flushed, Freight, Lapse, Line, Message as Came}
 use Rattle.run_rules.specs.declared.step.Cause.TheVariants.{Restart}
 use Rattle.run_rules.specs.declared.step.Step.{Step}
+use Rattle.run_tokens.proofs.TokenRun.{works_none}
+use Rattle.run_tokens.proofs.Ships.{ships_keep}
+use Rattle.run_rules.specs.Doings.{shipping}
 use Rattle.run_history.proofs.State.{whole}
 
 -- no Done of a Change was said in this epoch
@@ -89,7 +94,7 @@ causes Flushed S old = on S Flushes (λ w e. cc) (λ h e n b q. cc) refl old
 causes (Line line) S old = old
 causes Lapse S old = old
 causes Evict S old = old
-causes (Freight freight) S old = old
+causes (Freight freight) S old = on S (Gets freight.server freight.moves freight.body) (λ w e. cc) (λ h e n b q. cc) refl old
 causes End S old = old
 
 same_want : (v w : Wanted) → MakesWant v ≡ MakesWant w → v ≡ w
@@ -142,11 +147,13 @@ decides v before s (IsMoved move ∷ xs) tree S may old = elim may.0 [ ]
 step_fresh : (script : Script) (start : Tree) (v : ServerId) (steps : List Step) (S : List Doing) (s : Step)
     → ServerMay script start v steps S s → AllFresh S → AllFresh (after_step s S)
 step_fresh script start v steps S s m old =
-    on (after_sending s S) (Reserves s.reserved) (λ w e. cc) (λ h e n b q. cc) refl
-    (sents s.sent (after_admitting s S) (admits s.admitted (after_deciding s S)
-    (subst AllFresh (sym (same_decisions s.applied (after_cause s.cause S)))
+    on (after_shipping s S) (Reserves s.reserved) (λ w e. cc) (λ h e n b q. cc) refl
+    (ships_keep AllFresh (λ T to n b was. on T (Puts to n b) (λ w e. cc) (λ h e n b q. cc) refl was) s.shipped
+    (after_sending s S) (sents s.sent (after_admitting s S) (admits s.admitted (after_deciding s S)
+    (subst AllFresh (sym (same_decisions s.applied (after_cause s.cause S)
+    (works_none v (filesets_kept start v steps) S s m.works.applies)))
     (decides v S s (decisions s.applied) (filesets_through s.cause (by_cause s.applied) (filesets_kept start v steps))
-    (after_cause s.cause S) m.works.decides (causes s.cause S old)))))
+    (after_cause s.cause S) m.works.decides (causes s.cause S old))))))
 
 -- a list grows
 later : {A : Type 0} (P : List A → A → Type 0) (xs ys : List A) → Once P ys → Once P (appended xs ys)
@@ -161,15 +168,15 @@ cause_sent Flushed S h e n b o = inr o
 cause_sent (Line line) S h e n b o = o
 cause_sent Lapse S h e n b o = o
 cause_sent Evict S h e n b o = o
-cause_sent (Freight freight) S h e n b o = o
+cause_sent (Freight freight) S h e n b o = inr o
 cause_sent End S h e n b o = o
 
 pub sent_later : (s : Step) (S : List Doing) (h : HostId) (e n : ℕ) (b : Body) → SentTo S h e n b
     → SentTo (after_step s S) h e n b
 sent_later s S h e n b o =
-    inr (later _ (sending s.sent) (after_admitting s S)
+    inr (later _ (shipping s.shipped) (after_sending s S) (later _ (sending s.sent) (after_admitting s S)
     (later _ (admitting s.admitted) (after_deciding s S)
-    (later _ (deciding s.applied) (after_cause s.cause S) (cause_sent s.cause S h e n b o))))
+    (later _ (deciding s.applied) (after_cause s.cause S) (cause_sent s.cause S h e n b o)))))
 
 -- there is no server 0
 none_zero : (xs : List (ℕ × ℕ)) (v : ServerId)

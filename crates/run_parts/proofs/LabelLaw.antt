@@ -24,6 +24,7 @@ use Rattle.message_types.specs.declared.message.Body.{Body}
 use Rattle.message_types.specs.declared.message.Body.TheVariants.{Bye, GiveBack, Kept}
 use Rattle.token_types.specs.declared.token.Token.{Token}
 use Rattle.token_types.specs.declared.token.TokenId.{TokenId}
+use Rattle.run_tokens.specs.Unmoved.{MovesNone}
 use Rattle.run_parts.proofs.Served.{Next, after_doings, each_next}
 use Rattle.run_parts.specs.Doings.{doings}
 use Rattle.run_parts.proofs.Arriving.{unreturned}
@@ -444,7 +445,7 @@ module _ (firsts : ServerId → ℕ) where
   -- a server's step
   module _ (k : ServerId) (past : List Step) (s : Step)
       (whole : Whole (λ h. steps_of_host h past) (λ v. doings_of (firsts v) v past)) (may : StepMay firsts (Server k) past s)
-      (old : AllUses past) where
+      (none : MovesNone s) (old : AllUses past) where
     at_home : (h : HostId)
         → Uses h k (steps_of_host h past) (after_step s (doings_of (firsts k) k past)) (LockedNow (Server k) past s h)
     at_home h =
@@ -452,7 +453,7 @@ module _ (firsts : ServerId → ℕ) where
         (after_doings s (doings_of (firsts k) k past))
         (serve (λ j. steps_of_host j past) whole.alone h k (old.labels h) (doings s (doings_of (firsts k) k past))
         (doings_of (firsts k) k past) (Locked firsts past h) (whole.at k)
-        (each_next (λ j. steps_of_host j past) whole.alone k s (doings_of (firsts k) k past) may.0 (λ m e. (may.1 m e).2))
+        (each_next (λ j. steps_of_host j past) whole.alone k s (doings_of (firsts k) k past) none may.0 (λ m e. (may.1 m e).2))
         (old.uses h k))
 
     server_uses : UsesAfter (Server k) past s
@@ -467,11 +468,11 @@ module _ (firsts : ServerId → ℕ) where
         (old.uses h v))
 
   step : (n : Node) (past : List Step) (s : Step) → Whole (λ h. steps_of_host h past) (λ v. doings_of (firsts v) v past)
-      → World n past s → StepMay firsts n past s → StepUses n past s → AllUses past
+      → World n past s → StepMay firsts n past s → MovesNone s → StepUses n past s → AllUses past
       → LabelsAfter n past s × UsesAfter n past s
-  step (Host k) past s whole next may rules old =
+  step (Host k) past s whole next may none rules old =
       (host_labels k past s whole next may rules old, host_uses k past s whole next may rules old)
-  step (Server k) past s whole next may rules old = (old.labels, server_uses k past s whole may old)
+  step (Server k) past s whole next may none rules old = (old.labels, server_uses k past s whole may none old)
 
   pub all_uses : (past : List Step) → IsTokenRun firsts past → UsesRun past → AllUses past
   all_uses [] run rules = record {
@@ -491,7 +492,7 @@ module _ (firsts : ServerId → ℕ) where
     };
   }
   all_uses (s ∷ past) run rules =
-      let x = step s.node past s (always firsts past run.0) (always firsts (s ∷ past) run) run.1 rules.1
+      let x = step s.node past s (always firsts past run.0) (always firsts (s ∷ past) run) run.1 run.3 rules.1
       (all_uses past run.0 rules.0) in
       record { labels = x.0; uses = x.1 }
 
@@ -531,7 +532,7 @@ module _ (firsts : ServerId → ℕ) where
     placed : (v : ServerId) (t : Token) → Owed v (doings_of (firsts v) v past) t → home t.fid.fileset ≡ v
     placed v t o =
         let i = (w.at v).served.owed_issued t o in
-        made_at v (doings_of (firsts v) v past) t.fid.fileset i.0.moves ((w.at v).served.at t i.0 i.1)
+        made_at v (doings_of (firsts v) v past) t.fid.fileset i.0.moves (w.at v).served.put ((w.at v).served.at t i.0 i.1)
 
     pub locks_apart : LocksApart firsts past
     locks_apart h k t u a b live_h live_k c =

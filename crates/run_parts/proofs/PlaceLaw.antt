@@ -42,6 +42,7 @@ use Rattle.run_parts.proofs.OwnStep.{Own, hand_is, foreign}
 use Rattle.run_parts.proofs.OwnRest.{shown_own, treed_own}
 use Rattle.run_parts.proofs.OtherStep.{shown_other}
 use Rattle.run_parts.proofs.ActStep.{OneDoing, shown_act, treed_act, legal_act, kept_present}
+use Rattle.run_tokens.specs.Unmoved.{MovesNone}
 use Rattle.run_parts.proofs.Served.{Next, each_next, after_doings}
 
 -- the token layer and the parts, at one server
@@ -141,7 +142,7 @@ owned_site : (own_of : HostId → List Step) (acts_of : ServerId → List Doing)
     → (h : HostId) (t : Token) → Owns (own_of h) t → t.id.server ≡ site t.fid
 owned_site own_of acts_of w h t k =
     let g = ((w.at t.id.server).link h).held t refl k in
-    sym (made_at t.id.server (acts_of t.id.server) t.fid.fileset g.mark.moves
+    sym (made_at t.id.server (acts_of t.id.server) t.fid.fileset g.mark.moves (w.at t.id.server).served.put
     ((w.at t.id.server).served.at t g.mark g.issued))
 
 module _ (c : Contents) (firsts : ServerId → ℕ) where
@@ -249,18 +250,18 @@ module _ (c : Contents) (firsts : ServerId → ℕ) where
 
   step : (n : Node) (past : List Step) (s : Step) → Kept past
       → Whole (λ h. own_after h n s (steps_of_host h past))
-      (λ v. acts_in (served_after c v n s past (served c (firsts v) v past))) → StepMay firsts n past s
+      (λ v. acts_in (served_after c v n s past (served c (firsts v) v past))) → StepMay firsts n past s → MovesNone s
       → StepShows c firsts n past s → After n past s
-  step (Host k) past s old next may rules = (
+  step (Host k) past s old next may none rules = (
     host_seen past k s old next may rules,
     host_at past k s old next may rules,
     host_legal past k s old next may rules,
   )
-  step (Server k) past s old next may rules = (old.seen, at', x.1)
+  step (Server k) past s old next may none rules = (old.seen, at', x.1)
     where
       each : EachInTurn (Next (λ h. steps_of_host h past) k) (acts_in (c.deeds past s)) (acts_in (served c (firsts k) k past))
       each = subst (λ l. EachInTurn (Next (λ h. steps_of_host h past) k) l (acts_in (served c (firsts k) k past))) (sym rules.0)
-          (each_next (λ h. steps_of_host h past) old.whole.alone k s (acts_in (served c (firsts k) k past))
+          (each_next (λ h. steps_of_host h past) old.whole.alone k s (acts_in (served c (firsts k) k past)) none
           (subst (λ S. ServerStep k S s) (sym (old.same k)) may.0) (λ m e. (may.1 m e).2))
 
       x : At c (λ h. steps_of_host h past) (cells_served (c.deeds past s) (tree c past)) k
@@ -365,7 +366,7 @@ module _ (c : Contents) (firsts : ServerId → ℕ) where
         alone = w.alone;
         at = λ v. subst (AtServer (λ h. own_after h s.node s (steps_of_host h past)) v) (sym (same v)) (w.at v);
       } in
-      let x = step s.node past s old.0 whole run.1 rules.1 in
+      let x = step s.node past s old.0 whole run.1 run.3 rules.1 in
       (record { same = same; whole = whole; seen = x.0; at = x.1 }, (old.1, x.2))
 
   module _ (past : List Step) (run : IsTokenRun firsts past) (rules : ContentsRun c firsts past) where

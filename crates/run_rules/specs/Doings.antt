@@ -1,36 +1,58 @@
--- A server's doings: each step of it, taken apart in order; its list of hosts; what it has granted. All lists of doings
--- have the newest first; `past` is the server's earlier doings.
-use Rattle.std.specs.Prelude.{List, [], flat_map, if◌then◌else◌, map, suc, ℕ, ◌∷◌, ◌≡◌, ◌≤◌, ◌⊎◌}
+-- A server's doings: each step of it, taken apart in order; its filesets; its list of hosts; what it has granted. All
+-- lists of doings have the newest first; `past` is the server's earlier doings.
+use Rattle.std.specs.Prelude.{List, None, Option, Some, [], false, flat_map, if◌then◌else◌, map, suc, true}
+use Rattle.std.specs.Prelude.{Bool, ℕ, ◌==◌, ◌∷◌, ◌≡◌, ◌≤◌, ◌⊎◌}
 use Rattle.base_types.specs.declared.ids.Fid.{Fid}
 use Rattle.base_types.specs.declared.ids.FilesetId.{FilesetId}
 use Rattle.base_types.specs.declared.ids.HostId.{HostId}
 use Rattle.base_types.specs.declared.ids.Node.TheVariants.{Server}
 use Rattle.base_types.specs.declared.ids.ServerId.{ServerId}
+use Rattle.tree_calls.specs.declared.reply.Reply.{Reply}
+use Rattle.tree_calls.specs.declared.reply.Reply.TheVariants.{Refused}
 use Rattle.token_types.specs.declared.token.Token.{Token}
 use Rattle.token_types.specs.declared.token.TokenId.{TokenId}
 use Rattle.message_types.specs.declared.giving.AppliedGive.{AppliedGive}
 use Rattle.message_types.specs.declared.giving.Give.{Give}
 use Rattle.message_types.specs.declared.message.Body.{Body}
 use Rattle.message_types.specs.declared.message.Body.TheVariants.{Bye, Done, Down, GiveBack, Grant, Hello, Kept}
-use Rattle.message_types.specs.declared.message.Body.TheVariants.{Returned, Revoke}
+use Rattle.message_types.specs.declared.message.Body.TheVariants.{Returned, Revoke, Ship, Shipped}
 use Rattle.message_types.specs.declared.message.Message.{Message}
 use Rattle.message_types.specs.declared.telling.Bring.{Bring}
 use Rattle.message_types.specs.declared.telling.Done.{Done as DoneOf}
 use Rattle.message_types.specs.declared.telling.Grant.{Grant as GrantOf}
 use Rattle.message_types.specs.declared.tokens.Named.{Named}
 use Rattle.message_types.specs.declared.tokens.Revoke.{Revoke as RevokeOf}
-use Rattle.run_rules.specs.Messages.{first_stay}
+use Rattle.run_rules.specs.Messages.{home}
 use Rattle.run_rules.specs.Past.{In, Once, Since, appended}
 use Rattle.run_rules.specs.Steps.{is_node}
 use Rattle.run_rules.specs.Tokens.{IsUseKind}
 use Rattle.run_rules.specs.declared.applied.Admission.{Admission}
 use Rattle.run_rules.specs.declared.applied.Applied.{Applied}
-use Rattle.run_rules.specs.declared.applied.Applied.TheVariants.{Done as IsDone, Wants as IsWanted}
+use Rattle.run_rules.specs.declared.applied.Applied.TheVariants.{Done as IsDone, Moves as IsMoved, Wants as IsWanted}
+use Rattle.run_rules.specs.declared.applied.Head.{Head}
+use Rattle.run_rules.specs.declared.applied.Move.{Move}
+use Rattle.run_rules.specs.declared.applied.Move.TheVariants.{Arrives, Back, Leaves, Left, Part}
 use Rattle.run_rules.specs.declared.applied.Wanted.{Wanted}
 use Rattle.run_rules.specs.declared.applied.Written.{Written}
 use Rattle.run_rules.specs.declared.step.Cause.{Cause}
-use Rattle.run_rules.specs.declared.step.Cause.TheVariants.{Flushed, Message as Came, Restart}
+use Rattle.run_rules.specs.declared.step.Cause.TheVariants.{Flushed, Freight, Message as Came, Restart}
 use Rattle.run_rules.specs.declared.step.Step.{Step}
+
+-- # What a server has of filesets
+
+-- what a server has of a fileset
+pub data Slot : Type 0 where
+  -- nothing
+  Absent : Slot
+  -- it is here, writable or a clone, after so many moves
+  Writable : (moves : ℕ) → Slot
+  -- it was here after so many moves, and is leaving for a server under a ship number of this one
+  Leaving : (moves : ℕ) → (to : ServerId) → (ship : ℕ) → Slot
+  -- it is coming from a server, under a ship number of that one, and will have moved so often; so many parts were
+  -- taken, the head counted
+  Arriving : (moves : ℕ) → (from : ServerId) → (ship parts : ℕ) → Slot
+  -- it was here after so many moves, and has left for a server
+  Gone : (moves : ℕ) → (to : ServerId) → Slot
 
 -- # Doings of a step, in order
 
@@ -51,6 +73,12 @@ pub data Doing : Type 0 where
   Sent : HostId → (epoch moves : ℕ) → Body → Doing
   -- its exporter keeps tokens
   Reserves : List Token → Doing
+  -- it takes a message of another server, with a number of moves
+  Gets : (from : ServerId) → (moves : ℕ) → Body → Doing
+  -- what becomes of a fileset that moves
+  Moves : Move → Doing
+  -- it sends another server a message, with a number of moves
+  Puts : (to : ServerId) → (moves : ℕ) → Body → Doing
 
 abbrev pub epoch_after : Doing → ℕ → ℕ
 epoch_after (BeginsEpoch epoch) now = epoch
@@ -70,12 +98,14 @@ abbrev pub after_cause : Cause → List Doing → List Doing
 after_cause (Came m) past = Took m.host m.epoch m.moves m.body ∷ past
 after_cause (Restart line) past = BeginsEpoch (suc (epoch past)) ∷ past
 after_cause Flushed past = Flushes ∷ past
+after_cause (Freight m) past = Gets m.server m.moves m.body ∷ past
 after_cause _ past = past
 
--- wants are made and Changes written down; the rest of what is applied belongs to the cause
+-- wants are made, Changes written down, and filesets come and go; the rest of what is applied belongs to the cause
 abbrev pub decisions_of : Applied → List Doing
 decisions_of (IsWanted wanted) = MakesWant wanted ∷ []
 decisions_of (IsDone written) = WritesDown written ∷ []
+decisions_of (IsMoved move) = Moves move ∷ []
 decisions_of _ = []
 
 abbrev pub deciding : List Applied → List Doing
@@ -87,7 +117,16 @@ admitting admitted = map (λ claim. Admits claim.host claim.tokens) admitted
 abbrev pub sending : List Message → List Doing
 sending sent = map (λ m. Sent m.host m.epoch m.moves m.body) sent
 
--- where a step of the server has come: wants are made and Changes written down; claims are granted; all is sent
+-- to whom a server sends another one a message: its body names it first
+abbrev pub shipped_by_body : Body → ServerId → ServerId
+shipped_by_body (Ship ship) server = ship.to
+shipped_by_body (Shipped shipped) server = shipped.to
+shipped_by_body _ server = server
+
+abbrev pub shipping : List Message → List Doing
+shipping shipped = map (λ m. Puts (shipped_by_body m.body m.server) m.moves m.body) shipped
+
+-- where a step of the server has come: all is decided; claims are granted; all is sent to hosts, and to servers
 abbrev pub after_deciding : Step → List Doing → List Doing
 after_deciding step past = appended (deciding step.applied) (after_cause step.cause past)
 
@@ -97,9 +136,12 @@ after_admitting step past = appended (admitting step.admitted) (after_deciding s
 abbrev pub after_sending : Step → List Doing → List Doing
 after_sending step past = appended (sending step.sent) (after_admitting step past)
 
+abbrev pub after_shipping : Step → List Doing → List Doing
+after_shipping step past = appended (shipping step.shipped) (after_sending step past)
+
 -- the doings after a step of the server
 abbrev pub after_step : Step → List Doing → List Doing
-after_step step past = Reserves step.reserved ∷ after_sending step past
+after_step step past = Reserves step.reserved ∷ after_shipping step past
 
 -- the doings of a server that starts in an epoch
 abbrev pub doings_of : ℕ → ServerId → List Step → List Doing
@@ -108,11 +150,46 @@ doings_of first server (step ∷ past) =
     if is_node step.node (Server server) then after_step step (doings_of first server past)
     else doings_of first server past
 
--- # The list of hosts, and which messages are taken
+-- # Where filesets are, after these doings of the server
 
--- the fileset is at the server in this stay, after these doings of the server
+abbrev pub is_refusal : Reply → Bool
+is_refusal (Refused refusal) = true
+is_refusal _ = false
+
+-- what becomes of a slot: a fileset that is here begins to leave; one of which the head was taken is arriving, and is
+-- here with its last part; one whose head was refused is here again; one of which all was taken is gone
+abbrev pub slot_after : Move → Slot → Slot
+slot_after (Leaves fileset to ship mover) (Writable moves) = Leaving moves to ship
+slot_after (Arrives head) old =
+    if is_refusal head.written.answer.reply then old else Arriving head.moves head.from head.ship.ship 1
+slot_after (Part fileset last) (Arriving moves from ship parts) =
+    if last then Writable moves else Arriving moves from ship (suc parts)
+slot_after (Back written) (Leaving moves to ship) = Writable moves
+slot_after (Left fileset at) (Leaving moves to ship) = Gone moves at
+slot_after _ old = old
+
+-- the fileset that moves
+abbrev pub moved : Move → FilesetId
+moved (Leaves fileset to ship mover) = fileset
+moved (Arrives head) = head.written.fileset
+moved (Part fileset last) = fileset
+moved (Back written) = written.fileset
+moved (Left fileset to) = fileset
+
+abbrev pub slot_by : Doing → FilesetId → Slot → Slot
+slot_by (Moves move) fileset old = if (moved move).0 == fileset.0 then slot_after move old else old
+slot_by _ fileset old = old
+
+-- what a server has of a fileset: at first what is made at it
+abbrev pub slot_of : ServerId → List Doing → FilesetId → Slot
+slot_of server [] fileset = if (home fileset).0 == server.0 then Writable 0 else Absent
+slot_of server (a ∷ past) fileset = slot_by a fileset (slot_of server past fileset)
+
+-- the fileset is at the server in this stay: writable, or a clone
 abbrev pub Here : ServerId → List Doing → FilesetId → ℕ → Type 0
-Here server past fileset moves = first_stay fileset ≡ record { server = server; moves = moves }
+Here server past fileset moves = slot_of server past fileset ≡ Writable moves
+
+-- # The list of hosts, and which messages are taken
 
 -- the doing takes this from the host, of whatever epoch
 abbrev pub Hears : Doing → HostId → Body → Type 0

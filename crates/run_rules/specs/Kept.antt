@@ -12,14 +12,13 @@ use Rattle.tree_answers.specs.Finding.{has_id}
 use Rattle.tree_answers.specs.Stores.{place_with_id}
 use Rattle.tree_answers.specs.declared.tree.Tree.{Tree}
 use Rattle.tree_calls.specs.declared.part.Piece.{Piece}
-use Rattle.tree_calls.specs.declared.reply.Reply.{Reply}
-use Rattle.tree_calls.specs.declared.reply.Reply.TheVariants.{Refused}
 use Rattle.tree_filesets.specs.Laws.{is_file_at}
 use Rattle.tree_filesets.specs.Updates.{changed}
 use Rattle.tree_objects.specs.declared.content.Content.{Content}
 use Rattle.tree_objects.specs.declared.content.Content.TheVariants.{Dir, File}
 use Rattle.message_types.specs.declared.message.Body.{Body}
 use Rattle.message_types.specs.declared.message.Body.TheVariants.{GiveBack}
+pub use Rattle.run_rules.specs.Doings.{is_refusal}
 use Rattle.run_rules.specs.Views.{byte_of}
 use Rattle.run_rules.specs.declared.applied.Applied.{Applied}
 use Rattle.run_rules.specs.declared.applied.Applied.TheVariants.{Done, Stored}
@@ -64,10 +63,6 @@ pieces_of _ = []
 abbrev pub pieces_in : Cause → List Piece
 pieces_in (Came m) = pieces_of m.body
 pieces_in _ = []
-
-abbrev pub is_refusal : Reply → Bool
-is_refusal (Refused refusal) = true
-is_refusal _ = false
 
 -- A Change that is written down has the call's effect on the kept filesets; a refused one has none. What is stored
 -- is the bytes and the length of the give-back that is the step's cause. Locks and open files aren't kept.

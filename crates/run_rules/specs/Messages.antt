@@ -21,8 +21,8 @@ use Rattle.run_rules.specs.declared.step.Cause.TheVariants.{Message as Came}
 use Rattle.run_rules.specs.declared.step.Step.{Step}
 
 -- # Stays: at which server a fileset is. A stay of a fileset begins when it comes to a server; it is known by the
--- server and by how often the fileset has moved. So far a fileset stays where it was made: `stay_of` and `Here` then
--- speak of its first stay alone.
+-- server and by how often the fileset has moved. So far no host learns of a move: `stay_of` then speaks of the first
+-- stay alone.
 
 -- a stay of a fileset
 pub record Stay : Type 0 where

@@ -21,7 +21,7 @@ use Rattle.message_types.specs.declared.telling.Grant.{Grant as GrantOf}
 use Rattle.message_types.specs.declared.tokens.Revoke.{Revoke as RevokeOf}
 use Rattle.run_rules.specs.Doings.{Doing, GivenUp, Granted, HasReclaimed, HasUsedStamp, Here, IsApplied, IsDurable}
 use Rattle.run_rules.specs.Doings.{IsLive, Issued, NoGrace, Reserved, SentTo, StayStamp, TookNow, TookOf, admitting}
-use Rattle.run_rules.specs.Doings.{after_admitting, after_cause, after_deciding, after_sending, deciding, epoch}
+use Rattle.run_rules.specs.Doings.{after_admitting, after_cause, after_deciding, after_shipping, deciding, epoch}
 use Rattle.run_rules.specs.Doings.{sending}
 use Rattle.run_rules.specs.Doings.Doing.{Admits, Reserves, Sent, WritesDown}
 use Rattle.run_rules.specs.Past.{EachInTurn, In}
@@ -134,4 +134,4 @@ pub record ServerStep (server : ServerId) (past : List Doing) (s : Step) : Type 
   pub writes : EachInTurn (ServerTokens server) (deciding s.applied) (after_cause s.cause past)
   pub admits : EachInTurn (ServerTokens server) (admitting s.admitted) (after_deciding s past)
   pub sends : EachInTurn (ServerTokens server) (sending s.sent) (after_admitting s past)
-  pub reserves : ServerTokens server (after_sending s past) (Reserves s.reserved)
+  pub reserves : ServerTokens server (after_shipping s past) (Reserves s.reserved)

@@ -10,7 +10,9 @@ use Rattle.message_types.specs.declared.giving.AppliedGive.{AppliedGive}
 use Rattle.message_types.specs.declared.message.Body.TheVariants.{GiveBack}
 use Rattle.script_lines.specs.declared.script.Script.{Script}
 use Rattle.tree_answers.specs.declared.tree.Tree.{Tree}
+use Rattle.run_rules.specs.Doings.{after_shipping}
 use Rattle.run_rules.specs.Doings.{Doing, IsApplied, TakesOf, WasWritten, admitting, after_admitting, after_cause, after_deciding, after_sending, after_step, deciding, doings_of, sending}
+use Rattle.run_rules.specs.Doings.Doing.{Puts}
 use Rattle.run_rules.specs.Doings.Doing.{Reserves, WritesDown}
 use Rattle.run_rules.specs.Steps.{is_node}
 use Rattle.run_rules.specs.Past.{Always, EachInTurn, appended}
@@ -23,6 +25,7 @@ use Rattle.run_rules.specs.declared.step.Cause.TheVariants.{Line, Message as Cam
 use Rattle.run_rules.specs.declared.step.Step.{Step}
 use Rattle.run_tokens.proofs.Words.{if_server}
 use Rattle.run_tokens.specs.TokenLaws.{WasApplied}
+use Rattle.run_tokens.proofs.Ships.{ships_keep}
 use Rattle.run_stores.specs.Numbers.{ChangesRise, GivesRise, NumbersRise}
 
 -- what is written down has a higher number
@@ -46,7 +49,7 @@ module _ (v : ServerId) where
   caused (Line line) S all = all
   caused Lapse S all = all
   caused Evict S all = all
-  caused (Freight freight) S all = all
+  caused (Freight freight) S all = (all, λ w e number was. absurd (cc))
   caused End S all = all
 
   one_step : (S : List Doing) (s : Step) → ServerStep v S s → Always Rises S → Always Rises (after_step s S)
@@ -54,7 +57,9 @@ module _ (v : ServerId) where
       let decided = in_turn (deciding s.applied) (after_cause s.cause S) may.writes (caused s.cause S all) in
       let admitted = in_turn (admitting s.admitted) (after_deciding s S) may.admits decided in
       let sent = in_turn (sending s.sent) (after_admitting s S) may.sends admitted in
-      (sent, allowed (after_sending s S) (Reserves s.reserved) may.reserves)
+      let shipped = ships_keep (Always Rises) (λ T to n b was. (was, λ w e number old. absurd (cc))) s.shipped
+      (after_sending s S) sent in
+      (shipped, allowed (after_shipping s S) (Reserves s.reserved) may.reserves)
 
 module _ (script : Script) (start : Tree) (firsts : ServerId → ℕ) (v : ServerId) where
   by_node : (n : Node) (past : List Step) (s : Step) → StepMeets script start firsts n past s

@@ -43,8 +43,9 @@ pub at_one : home root.fileset ≡ site_one
 unfolding home
 at_one = refl
 
-pub here_one : (past : List Doing) → Here site_one past root.fileset 0
-here_one past = λ i. record { server = at_one i; moves = 0 }
+pub here_one : Here site_one [] root.fileset 0
+unfolding home
+here_one = refl
 
 -- a message that the host sends without giving anything up
 abbrev pub IsPlain : Body → Type 0
@@ -399,7 +400,7 @@ module _ (whole : Span) where
   may_bring = record {
     over = λ h l. subst (HasReclaimed asked) (sym (asked_new.listed_is h l.0)) asked_new.reclaimed;
     live = (asked_new.listed, asked_new.here client);
-    home = here_one asked;
+    home = here_one;
     stamp = (omega arith, λ x t. absurd (asked_new.none_told x t));
     host_is = both (λ t. t.host ≡ client) refl refl;
     file = both (λ t. t.fid ≡ root) refl refl;
@@ -564,28 +565,28 @@ module _ (whole : Span) where
   steps_7 = takes whole ∷ steps_6
 
   run_1 : IsTokenRun (λ v. 1) steps_1
-  run_1 = (λ v. omega arith, (greets_may, line_cause [] greets 6 refl), to_it 0 Hello)
+  run_1 = (λ v. omega arith, (greets_may, line_cause [] greets 6 refl), to_it 0 Hello, refl)
 
   run_2 : IsTokenRun (λ v. 1) steps_2
-  run_2 = (run_1, (welcomes_may, server_cause steps_1 welcomes 0 Hello refl (inl (to_server 0 Hello, inl refl, refl, refl, refl, refl))), from_it (Reclaimed welcome))
+  run_2 = (run_1, (welcomes_may, server_cause steps_1 welcomes 0 Hello refl (inl (to_server 0 Hello, inl refl, refl, refl, refl, refl))), from_it (Reclaimed welcome), refl)
 
   run_3 : IsTokenRun (λ v. 1) steps_3
-  run_3 = (run_2, (enters_may, host_cause steps_2 enters (Reclaimed welcome) refl (inr (inl refl))), to_it 1 (Change enter))
+  run_3 = (run_2, (enters_may, host_cause steps_2 enters (Reclaimed welcome) refl (inr (inl refl))), to_it 1 (Change enter), refl)
 
   run_4 : IsTokenRun (λ v. 1) steps_4
-  run_4 = (run_3, (tells_may, server_cause steps_3 tells 1 (Change enter) refl (inl (to_server 1 (Change enter), inl refl, refl, refl, refl, refl))), from_it (Done entered))
+  run_4 = (run_3, (tells_may, server_cause steps_3 tells 1 (Change enter) refl (inl (to_server 1 (Change enter), inl refl, refl, refl, refl, refl))), from_it (Done entered), refl)
 
   run_5 : IsTokenRun (λ v. 1) steps_5
-  run_5 = (run_4, (fetches_may, host_cause steps_4 (fetches whole) (Done entered) refl (inr (inl refl))), to_it 1 (Fetch (asks_for whole)))
+  run_5 = (run_4, (fetches_may, host_cause steps_4 (fetches whole) (Done entered) refl (inr (inl refl))), to_it 1 (Fetch (asks_for whole)), refl)
 
   run_6 : IsTokenRun (λ v. 1) steps_6
-  run_6 = (run_5, (grants_may, server_cause steps_5 (grants whole) 1 (Fetch (asks_for whole)) refl (inl (to_server 1 (Fetch (asks_for whole)), inl refl, refl, refl, refl, refl))), from_it (Grant (granted whole)))
+  run_6 = (run_5, (grants_may, server_cause steps_5 (grants whole) 1 (Fetch (asks_for whole)) refl (inl (to_server 1 (Fetch (asks_for whole)), inl refl, refl, refl, refl, refl))), from_it (Grant (granted whole)), refl)
 
   run_7 : IsTokenRun (λ v. 1) steps_7
-  run_7 = (run_6, (takes_may, host_cause steps_6 (takes whole) (Grant (granted whole)) refl (inr (inl refl))), λ m i. elim i [ ])
+  run_7 = (run_6, (takes_may, host_cause steps_6 (takes whole) (Grant (granted whole)) refl (inr (inl refl))), λ m i. elim i [ ], refl)
 
   pub a_run : IsTokenRun (λ v. 1) (worked whole)
-  a_run = (run_7, (cache_may, line_cause steps_7 from_cache 7 refl), λ m i. elim i [ ])
+  a_run = (run_7, (cache_may, line_cause steps_7 from_cache 7 refl), λ m i. elim i [ ], refl)
 
   pub holds : Held (steps_of_host client (worked whole)) (token 2 (Bytes false whole))
   holds = (inr (inl (inr (inl refl)), λ d. elim d.1 [ ]), λ d. elim d.1 [ ])

@@ -100,7 +100,7 @@ module _ (h : HostId) (A : List Step) (S : ServerId → List Doing) (s : Step) (
 
   -- the fileset of an issued token is where it was issued
   issued_at : (v : ServerId) (t : Token) (k : StayStamp) → Issued (S v) t k → home t.fid.fileset ≡ v
-  issued_at v t k i = made_at v (S v) t.fid.fileset k.moves ((served v).at t k i)
+  issued_at v t k i = made_at v (S v) t.fid.fileset k.moves (served v).put ((served v).at t k i)
 
   -- floors begin anew only with an epoch that the token isn't of
   renewed : (v : ServerId) (t : Token) (k : StayStamp) → Issued (S v) t k → t.host ≡ h → t.id.epoch ≡ epoch_at (s ∷ A) v → Renews A s t.fid.fileset → ⊥
@@ -186,7 +186,7 @@ module _ (h : HostId) (A : List Step) (S : ServerId → List Doing) (s : Step) (
     known' n at (inl (made, inl e)) = (served v).gones h (epoch_at A v) 0 n (came v (epoch_at A v) 0 (Gone n) (subst (λ w. ComesIn s w (epoch_at A w) 0 (Gone n)) at e))
     known' n at (inl (made, inr (w, r, c, m))) =
         let a = (served w).reclaimed h (epoch_at A w) 0 r n (came w (epoch_at A w) 0 (Reclaimed r) c) m in
-        subst (λ u. IsApplied u (S u) h n) (sym (applied_at w (S w) h n a) ∙ at) a
+        subst (λ u. IsApplied u (S u) h n) (sym (applied_at w (S w) h n (served w).put a) ∙ at) a
     known' n at (inr e) = (link v).known n at e
 
     in_flight' : (t : Token) (k : StayStamp) → Issued (S v) t k → t.host ≡ h → t.id.epoch ≡ epoch_at (s ∷ A) v → AboveFloor (s ∷ A) t.fid k.stamp → (HasGoneAway (S v) h → ⊥) → Owed v (S v) t

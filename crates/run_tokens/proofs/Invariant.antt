@@ -27,6 +27,7 @@ use Rattle.message_types.specs.declared.giving.Outstanding.{Outstanding}
 use Rattle.message_types.specs.declared.giving.Reclaim.{Reclaim as ReclaimOf}
 use Rattle.message_types.specs.declared.giving.Reclaimed.{Reclaimed as ReclaimedOf}
 use Rattle.run_rules.specs.declared.step.Step.{Step}
+use Rattle.run_tokens.specs.Unmoved.{StaysPut}
 use Rattle.run_tokens.proofs.Owed.{Owed}
 
 pub record IssuedBelow (S : List Doing) (h : HostId) (f : Fid) (e x : ℕ) (i : TokenId) : Type 0 where
@@ -75,6 +76,8 @@ pub record Brought (S : List Doing) (h : HostId) (e : ℕ) (w : Bring) (n : ℕ)
 
 -- of the server v alone, with the doings S
 pub record Served (v : ServerId) (S : List Doing) : Type 0 where
+  -- no fileset has moved
+  pub put : StaysPut S
   pub unique : (t u : Token) (x y : StayStamp) → Issued S t x → Issued S u y → t.id ≡ u.id → (t ≡ u) × (x ≡ y)
   pub told : (t : Token) (x : StayStamp) → Issued S t x → t.id.epoch ≡ epoch S → HasUsedStamp S t.fid x.stamp
   pub id : (t : Token) (x : StayStamp) → Issued S t x → t.id.server ≡ v

@@ -1,8 +1,11 @@
 -- Every run keeps the invariant, and the laws follow from it.
 use Rattle.run_tokens.proofs.Words.{acts_after, own_after}
+use Rattle.run_rules.specs.Doings.{after_shipping}
 use Rattle.run_rules.specs.Doings.{Doing, Granted, HasGoneAway, HasReclaimed, Here, IsApplied, IsNewEpoch, Reserved}
 use Rattle.run_rules.specs.Doings.{SentTo, TakesOf, admitting, after_admitting, after_cause, after_deciding}
+use Rattle.run_tokens.specs.Unmoved.{MovesNone, MovesOne, is_move}
 use Rattle.run_rules.specs.Doings.{after_sending, after_step, deciding, doings_of, epoch, sending}
+use Rattle.run_rules.specs.Doings.Doing.{Gets, Puts}
 use Rattle.run_rules.specs.Doings.Doing.{Admits, BeginsEpoch, Flushes, MakesWant, Reserves, Sent, Took, WritesDown}
 use Rattle.run_rules.specs.HostTokens.{HostTokens}
 use Rattle.run_rules.specs.Messages.{ComesIn, HasStopped, Said, home}
@@ -14,7 +17,8 @@ use Rattle.run_rules.specs.declared.applied.Applied.TheVariants.{Done as IsDone,
 use Rattle.run_rules.specs.declared.applied.Applied.TheVariants.{Moves as IsMoved, Wants as IsWanted}
 use Rattle.run_tokens.specs.TokenLaws.{AreAlwaysSafe, ChangesOnce, GivesOnce, IsTokenRun, NoConflict, StepMay}
 use Rattle.run_tokens.specs.TokenLaws.{TokensAreSafe, TokensNeverConflict, TookEver, WasApplied}
-use Rattle.std.proofs.Common.{◌≡◌, ℕ, ◌<◌, suc, true, List, [], ◌∷◌, inl, inr, sym, ◌∙◌, ap, subst, refl, arith}
+use Rattle.std.proofs.Common.{◌≡◌, ℕ, ◌<◌, suc, true, false, List, [], ◌∷◌, inl, inr, sym, ◌∙◌, ap, subst, refl, arith}
+use Rattle.std.specs.List.{list_any}
 use Rattle.base_types.specs.declared.ids.HostId.{HostId}
 use Rattle.base_types.specs.declared.ids.ServerId.{ServerId}
 use Rattle.base_types.specs.declared.ids.Fid.{Fid}
@@ -39,6 +43,7 @@ use Rattle.run_tokens.proofs.Words.{of_one, if_host, if_server, made_at}
 use Rattle.run_tokens.proofs.Invariant.{Served, Alone, Link}
 use Rattle.run_tokens.proofs.HostStep.{alone_step, host_step}
 use Rattle.run_tokens.proofs.ServerAct.{served_act, link_act}
+use Rattle.run_tokens.proofs.Ships.{ships_keep}
 use Rattle.run_tokens.proofs.ServerBegin.{served_begin, link_begin}
 
 -- the law, part by part
@@ -120,32 +125,66 @@ flush_may v S = record {
   reserves = λ ts t u p. absurd (cc);
 }
 
+puts_may : (v : ServerId) (S : List Doing) (to : ServerId) (n : ℕ) (b : Body) → ServerTokens v S (Puts to n b)
+puts_may v S to n b = record {
+  epochs = λ k d m c p. absurd (cc);
+  grants = λ k d m w p. absurd (cc);
+  dones = λ k d m w p. absurd (cc);
+  revokes = λ k d m r i p. absurd (cc);
+  revokes_here = λ k d m r p. absurd (cc);
+  stamps = λ k d m x r p. absurd (cc);
+  gones = λ k d m g p. absurd (cc);
+  reclaimed = λ k d m r g p. absurd (cc);
+  left_out = λ k d m r i p. absurd (cc);
+  admits = λ k ts p. absurd (cc);
+  writes = λ w p. absurd (cc);
+  writes_once = λ w p. absurd (cc);
+  reserves = λ ts t u p. absurd (cc);
+}
+
+gets_may : (v : ServerId) (S : List Doing) (from : ServerId) (n : ℕ) (b : Body) → ServerTokens v S (Gets from n b)
+gets_may v S from n b = record {
+  epochs = λ k d m c p. absurd (cc);
+  grants = λ k d m w p. absurd (cc);
+  dones = λ k d m w p. absurd (cc);
+  revokes = λ k d m r i p. absurd (cc);
+  revokes_here = λ k d m r p. absurd (cc);
+  stamps = λ k d m x r p. absurd (cc);
+  gones = λ k d m g p. absurd (cc);
+  reclaimed = λ k d m r g p. absurd (cc);
+  left_out = λ k d m r i p. absurd (cc);
+  admits = λ k ts p. absurd (cc);
+  writes = λ w p. absurd (cc);
+  writes_once = λ w p. absurd (cc);
+  reserves = λ ts t u p. absurd (cc);
+}
+
 module _ (own_of : HostId → List Step) (alone : (h : HostId) → Alone (own_of h)) (v : ServerId) where
-  act : (S : List Doing) (a : Doing) → AtServer own_of v S → ServerTokens v S a → (IsNewEpoch a → ⊥) → epoch (a ∷ S) ≡ epoch S → ((h : HostId) (e n : ℕ) (b : Body) → a ≡ Took h e n b → Said (own_of h) v e n b) → AtServer own_of v (a ∷ S)
-  act S a at may quiet same came =
+  act : (S : List Doing) (a : Doing) → AtServer own_of v S → ServerTokens v S a → (IsNewEpoch a → ⊥) → (MovesOne a → ⊥) → epoch (a ∷ S) ≡ epoch S → ((h : HostId) (e n : ℕ) (b : Body) → a ≡ Took h e n b → Said (own_of h) v e n b) → AtServer own_of v (a ∷ S)
+  act S a at may quiet still same came =
       let owed : (t : Token) → Granted v S t → Owed v S t = λ t g. (at.link t.host).granted_owed t refl g in
       record {
-        served = served_act v S a at.served may quiet same owed;
-        link = λ h. link_act h v (own_of h) S a at.served may quiet same owed (alone h) (at.link h) (came h);
+        served = served_act v S a at.served may quiet still same owed;
+        link = λ h. link_act h v (own_of h) S a at.served may quiet still same owed (alone h) (at.link h) (came h);
         changes = (at.changes, λ w e old. may.writes_once w e (w.number, omega arith, old));
       }
 
   sends : (ms : List Message) (S : List Doing) → AtServer own_of v S → EachInTurn (ServerTokens v) (sending ms) S → AtServer own_of v (appended (sending ms) S)
   sends [] S at may = at
-  sends (m ∷ ms) S at may = sends ms (Sent m.host m.epoch m.moves m.body ∷ S) (act S (Sent m.host m.epoch m.moves m.body) at may.0 (λ p. let q = p.1 in cc) refl (λ h e n b p. absurd (cc))) may.1
+  sends (m ∷ ms) S at may = sends ms (Sent m.host m.epoch m.moves m.body ∷ S) (act S (Sent m.host m.epoch m.moves m.body) at may.0 (λ p. let q = p.1 in cc) (λ p. let q = p.1 in cc) refl (λ h e n b p. absurd (cc))) may.1
 
-  writes : (xs : List Applied) (S : List Doing) → AtServer own_of v S → EachInTurn (ServerTokens v) (deciding xs) S → AtServer own_of v (appended (deciding xs) S)
-  writes [] S at may = at
-  writes (IsWanted x ∷ xs) S at may = writes xs (MakesWant x ∷ S) (act S (MakesWant x) at may.0 (λ p. let q = p.1 in cc) refl (λ h e n b p. absurd (cc))) may.1
-  writes (IsDone x ∷ xs) S at may = writes xs (WritesDown x ∷ S) (act S (WritesDown x) at may.0 (λ p. let q = p.1 in cc) refl (λ h e n b p. absurd (cc))) may.1
-  writes (Replied x ∷ xs) S at may = writes xs S at may
-  writes (Stored h f ss n ∷ xs) S at may = writes xs S at may
-  writes (IsDown h ∷ xs) S at may = writes xs S at may
-  writes (IsMoved move ∷ xs) S at may = writes xs S at may
+  writes : (xs : List Applied) (S : List Doing) → AtServer own_of v S → EachInTurn (ServerTokens v) (deciding xs) S → list_any is_move xs ≡ false → AtServer own_of v (appended (deciding xs) S)
+  writes [] S at may none = at
+  writes (IsWanted x ∷ xs) S at may none = writes xs (MakesWant x ∷ S) (act S (MakesWant x) at may.0 (λ p. let q = p.1 in cc) (λ p. let q = p.1 in cc) refl (λ h e n b p. absurd (cc))) may.1 none
+  writes (IsDone x ∷ xs) S at may none = writes xs (WritesDown x ∷ S) (act S (WritesDown x) at may.0 (λ p. let q = p.1 in cc) (λ p. let q = p.1 in cc) refl (λ h e n b p. absurd (cc))) may.1 none
+  writes (Replied x ∷ xs) S at may none = writes xs S at may none
+  writes (Stored h f ss n ∷ xs) S at may none = writes xs S at may none
+  writes (IsDown h ∷ xs) S at may none = writes xs S at may none
+  writes (IsMoved move ∷ xs) S at may none = absurd (cc)
 
   admits : (cs : List Admission) (S : List Doing) → AtServer own_of v S → EachInTurn (ServerTokens v) (admitting cs) S → AtServer own_of v (appended (admitting cs) S)
   admits [] S at may = at
-  admits (c ∷ cs) S at may = admits cs (Admits c.host c.tokens ∷ S) (act S (Admits c.host c.tokens) at may.0 (λ p. let q = p.1 in cc) refl (λ h e n b p. absurd (cc))) may.1
+  admits (c ∷ cs) S at may = admits cs (Admits c.host c.tokens ∷ S) (act S (Admits c.host c.tokens) at may.0 (λ p. let q = p.1 in cc) (λ p. let q = p.1 in cc) refl (λ h e n b p. absurd (cc))) may.1
 
   begins : (S : List Doing) (n : ℕ) → epoch S < n → AtServer own_of v S → AtServer own_of v (BeginsEpoch n ∷ S)
   begins S n up at = record { served = served_begin v S n up at.served; link = λ h. link_begin v S n h (own_of h) up (alone h) (at.link h); changes = (at.changes, λ w e. absurd (cc)) }
@@ -153,13 +192,13 @@ module _ (own_of : HostId → List Step) (alone : (h : HostId) → Alone (own_of
   takes : (c : Cause) (S : List Doing) → AtServer own_of v S → ((m : Message) → c ≡ Came m → Said (own_of m.host) v m.epoch m.moves m.body) → AtServer own_of v (after_cause c S)
   takes (Came m) S at came =
       let here = came m refl in
-      act S (Took m.host m.epoch m.moves m.body) at (took_may v S m.host m.epoch m.moves m.body) (λ p. let q = p.1 in cc) refl (λ k d n c e. let p : m.host ≡ k = cc in let r : m.epoch ≡ d = cc in let o : m.moves ≡ n = cc in let q : m.body ≡ c = cc in subst (λ (x : HostId × ℕ × ℕ × Body). Said (own_of x.0) v x.1 x.2 x.3) (λ i. (p i, r i, o i, q i)) here)
+      act S (Took m.host m.epoch m.moves m.body) at (took_may v S m.host m.epoch m.moves m.body) (λ p. let q = p.1 in cc) (λ p. let q = p.1 in cc) refl (λ k d n c e. let p : m.host ≡ k = cc in let r : m.epoch ≡ d = cc in let o : m.moves ≡ n = cc in let q : m.body ≡ c = cc in subst (λ (x : HostId × ℕ × ℕ × Body). Said (own_of x.0) v x.1 x.2 x.3) (λ i. (p i, r i, o i, q i)) here)
   takes (Restart line) S at came = begins S (suc (epoch S)) (omega arith) at
-  takes Flushed S at came = act S Flushes at (flush_may v S) (λ p. let q = p.1 in cc) refl (λ k d n c e. absurd (cc))
+  takes Flushed S at came = act S Flushes at (flush_may v S) (λ p. let q = p.1 in cc) (λ p. let q = p.1 in cc) refl (λ k d n c e. absurd (cc))
   takes (Line line) S at came = at
   takes Lapse S at came = at
   takes Evict S at came = at
-  takes (Freight freight) S at came = at
+  takes (Freight freight) S at came = act S (Gets freight.server freight.moves freight.body) at (gets_may v S freight.server freight.moves freight.body) (λ p. let q = p.1 in cc) (λ p. let q = p.1 in cc) refl (λ k d n c e. absurd (cc))
   takes End S at came = at
 
 pub record Whole (own_of : HostId → List Step) (acts_of : ServerId → List Doing) : Type 0 where
@@ -179,8 +218,8 @@ gives_once v [] = tt
 gives_once v (a ∷ S) = (gives_once v S, λ h g p q. p.1 (was_applied v S h (number_of g) q))
 
 module _ (firsts : ServerId → ℕ) where
-  step : (n : Node) (past : List Step) (s : Step) → Whole (λ h. steps_of_host h past) (λ v. doings_of (firsts v) v past) → StepMay firsts n past s → Whole (λ h. own_after h n s (steps_of_host h past)) (λ v. acts_after v n s (doings_of (firsts v) v past))
-  step (Host k) past s kept may = record {
+  step : (n : Node) (past : List Step) (s : Step) → MovesNone s → Whole (λ h. steps_of_host h past) (λ v. doings_of (firsts v) v past) → StepMay firsts n past s → Whole (λ h. own_after h n s (steps_of_host h past)) (λ v. acts_after v n s (doings_of (firsts v) v past))
+  step (Host k) past s none kept may = record {
     alone = λ h. if_host Alone k h (s ∷ steps_of_host h past) (steps_of_host h past) (λ e. alone_step (steps_of_host h past) s (kept.alone h) (mine h e)) (kept.alone h);
     at = λ v. record {
       served = (kept.at v).served;
@@ -195,7 +234,7 @@ module _ (firsts : ServerId → ℕ) where
       sent : (h : HostId) → k ≡ h → (w : ServerId) (d n : ℕ) (b : Body) → ComesIn s w d n b → SentTo (doings_of (firsts w) w past) h d n b
       sent h e w d n b (m, cause, at, epoch_is, moves, body) =
           subst (λ (y : ServerId × HostId × ℕ × ℕ × Body). SentTo (doings_of (firsts y.0) y.0 past) y.1 y.2 y.3 y.4) (λ i. (at i, e i, epoch_is i, moves i, body i)) (may.1 m cause).2
-  step (Server k) past s kept may = record {
+  step (Server k) past s none kept may = record {
     alone = kept.alone;
     at = λ v. if_server (λ S. AtServer (λ h. steps_of_host h past) v S) k v (after_step s (doings_of (firsts v) v past)) (doings_of (firsts v) v past) (λ e. subst (λ w. AtServer (λ h. steps_of_host h past) w (after_step s (doings_of (firsts w) w past))) e here) (kept.at v);
   }
@@ -203,15 +242,21 @@ module _ (firsts : ServerId → ℕ) where
       written : AtServer (λ h. steps_of_host h past) k (after_deciding s (doings_of (firsts k) k past))
       written =
           writes (λ h. steps_of_host h past) kept.alone k s.applied (after_cause s.cause (doings_of (firsts k) k past))
-          (takes (λ h. steps_of_host h past) kept.alone k s.cause (doings_of (firsts k) k past) (kept.at k) (λ m e. (may.1 m e).2)) may.0.writes
+          (takes (λ h. steps_of_host h past) kept.alone k s.cause (doings_of (firsts k) k past) (kept.at k) (λ m e. (may.1 m e).2)) may.0.writes none
 
       sent : AtServer (λ h. steps_of_host h past) k (after_sending s (doings_of (firsts k) k past))
       sent =
           sends (λ h. steps_of_host h past) kept.alone k s.sent (after_admitting s (doings_of (firsts k) k past))
           (admits (λ h. steps_of_host h past) kept.alone k s.admitted (after_deciding s (doings_of (firsts k) k past)) written may.0.admits) may.0.sends
 
+      shipped : AtServer (λ h. steps_of_host h past) k (after_shipping s (doings_of (firsts k) k past))
+      shipped =
+          ships_keep (AtServer (λ h. steps_of_host h past) k) (λ T to n b was. act (λ h. steps_of_host h past) kept.alone k T
+          (Puts to n b) was (puts_may k T to n b) (λ p. let q = p.1 in cc) (λ p. let q = p.1 in cc) refl
+          (λ h e m c p. absurd (cc))) s.shipped (after_sending s (doings_of (firsts k) k past)) sent
+
       here : AtServer (λ h. steps_of_host h past) k (after_step s (doings_of (firsts k) k past))
-      here = act (λ h. steps_of_host h past) kept.alone k (after_sending s (doings_of (firsts k) k past)) (Reserves s.reserved) sent may.0.reserves (λ p. let q = p.1 in cc) refl (λ h e n b p. absurd (cc))
+      here = act (λ h. steps_of_host h past) kept.alone k (after_shipping s (doings_of (firsts k) k past)) (Reserves s.reserved) shipped may.0.reserves (λ p. let q = p.1 in cc) (λ p. let q = p.1 in cc) refl (λ h e n b p. absurd (cc))
 
   -- before anything has happened
   alone_first : Alone []
@@ -233,6 +278,7 @@ module _ (firsts : ServerId → ℕ) where
 
   served_first : (v : ServerId) → Served v []
   served_first v = record {
+    put = λ o. elim o [ ];
     unique = λ t u x y i. elim i [ ];
     told = λ t x i. elim i [ ];
     id = λ t x i. elim i [ ];
@@ -286,7 +332,7 @@ module _ (firsts : ServerId → ℕ) where
     alone = λ h. alone_first;
     at = λ v. begins (λ h. []) (λ h. alone_first) v [] (firsts v) (run v) (record { served = served_first v; link = λ h. link_first h v; changes = tt });
   }
-  always (s ∷ past) run = step s.node past s (always past run.0) run.1
+  always (s ∷ past) run = step s.node past s run.3 (always past run.0) run.1
 
   module _ (past : List Step) (kept : Whole (λ h. steps_of_host h past) (λ v. doings_of (firsts v) v past)) where
     -- a host that hasn't stopped and holds a token hasn't gone away
@@ -294,7 +340,7 @@ module _ (firsts : ServerId → ℕ) where
     here v g up w held away = elim (((kept.at v).link g).away away) [ inl d ↦ up d | inr b ↦ (kept.alone g).bye_held w v b ((kept.alone g).owns w held) ]
 
     placed : (v : ServerId) (t : Token) → Owed v (doings_of (firsts v) v past) t → home t.fid.fileset ≡ v
-    placed v t o = let i = (kept.at v).served.owed_issued t o in made_at v (doings_of (firsts v) v past) t.fid.fileset i.0.moves ((kept.at v).served.at t i.0 i.1)
+    placed v t o = let i = (kept.at v).served.owed_issued t o in made_at v (doings_of (firsts v) v past) t.fid.fileset i.0.moves (kept.at v).served.put ((kept.at v).served.at t i.0 i.1)
 
     -- what two servers owe doesn't conflict
     owed_apart : (v w : ServerId) (t u : Token) → Owed v (doings_of (firsts v) v past) t → Owed w (doings_of (firsts w) w past) u → conflict t u ≡ true → ⊥

@@ -1,4 +1,6 @@
 pub mod Owed
+pub mod Unmoved
+pub mod Ships
 pub mod Words
 pub mod Invariant
 pub mod HostStep

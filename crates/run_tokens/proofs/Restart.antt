@@ -1,5 +1,5 @@
 -- The rules of tokens admit a restart, a claim and a give-back.
-use Rattle.run_rules.specs.Doings.{Doing, GivenUp, Granted, HasReclaimed, IsApplied, IsLive, IsNewlyGranted, SentTo}
+use Rattle.run_rules.specs.Doings.{Doing, GivenUp, Granted, HasReclaimed, Here, IsApplied, IsLive, IsNewlyGranted, SentTo}
 use Rattle.run_rules.specs.Doings.{TookOf, doings_of, epoch}
 use Rattle.run_rules.specs.Doings.Doing.{Admits, BeginsEpoch, Reserves, Sent, Took}
 use Rattle.run_rules.specs.HostTokens.{Claims, HostTokens, IsClaimable}
@@ -56,7 +56,7 @@ record IsBare (b : Body) : Type 0 where
   done : (w : DoneOf) → b ≡ Done w → ⊥
   revoke : (r : RevokeOf) → b ≡ Revoke r → ⊥
 
-sends_bare : (past : List Doing) (b : Body) → epoch past ≡ 2 → IsBare b → ((g : AppliedGive) → b ≡ Gone g → (home g.fileset ≡ site_one) × IsApplied site_one past client g) → ((r : ReclaimedOf) → b ≡ Reclaimed r → claimed ≡ r) → ServerTokens site_one past (Sent client 2 0 b)
+sends_bare : (past : List Doing) (b : Body) → epoch past ≡ 2 → IsBare b → ((g : AppliedGive) → b ≡ Gone g → Here site_one past g.fileset 0 × IsApplied site_one past client g) → ((r : ReclaimedOf) → b ≡ Reclaimed r → claimed ≡ r) → ServerTokens site_one past (Sent client 2 0 b)
 sends_bare past b now bare gone says = record {
   epochs = λ h e n c p. let q : 2 ≡ e = cc in sym q ∙ sym now;
   grants = λ h e n w p. absurd (bare.grant w (cc));
@@ -64,7 +64,7 @@ sends_bare past b now bare gone says = record {
   revokes = λ h e n r i p. absurd (bare.revoke r (cc));
   revokes_here = λ h e n r p. absurd (bare.revoke r (cc));
   stamps = λ h e n x r p. absurd (bare.revoke r (cc));
-  gones = λ h e n g p. let q : client ≡ h = cc in let o : 0 ≡ n = cc in let x = gone g (cc) in ((λ i. record { server = x.0 i; moves = o i }), subst (λ k. IsApplied site_one past k g) q x.1);
+  gones = λ h e n g p. let q : client ≡ h = cc in let o : 0 ≡ n = cc in let x = gone g (cc) in (subst (λ k. Here site_one past g.fileset k) o x.0, subst (λ k. IsApplied site_one past k g) q x.1);
   reclaimed = λ h e n r g p m. let q : claimed ≡ r = says r (cc) in elim (subst (λ (x : ReclaimedOf). In g x.applied) (sym q) m) [ ];
   left_out = λ h e n r i p m. let q : claimed ≡ r = says r (cc) in elim (subst (λ (x : ReclaimedOf). In i x.left_out) (sym q) m) [ ];
   admits = λ h ts p. absurd (cc);
@@ -184,7 +184,7 @@ module _ (whole : Span) where
     moves = 0;
     took = inl (refl, live_began);
     waited = λ o m up. absurd (it_waits o m up);
-    sound = λ t m. (m, both (λ x. x.host ≡ client) refl refl t m, both (λ x. ClaimsHere site_one asked_again (claim whole) x) (at_root, inl refl, refl, here_one asked_again) (at_root, inl refl, refl, here_one asked_again) t m, not_given_up t.id, λ u. not_granted u.0 u.1);
+    sound = λ t m. (m, both (λ x. x.host ≡ client) refl refl t m, both (λ x. ClaimsHere site_one asked_again (claim whole) x) (at_root, inl refl, refl, here_one) (at_root, inl refl, refl, here_one) t m, not_given_up t.id, λ u. not_granted u.0 u.1);
     whole = λ t m here out free. (t, m, refl);
     apart = two_of;
   }
@@ -437,7 +437,7 @@ module _ (whole : Span) where
       stays (Reserves []) (Sent client 2 0 (Reclaimed claimed) ∷ Admits client (claim whole).tokens ∷ asked_again) b (λ e n p. cc) (λ e n p. cc)
 
   is_applied : IsApplied site_one stored client (number_of (give whole))
-  is_applied = inl (give whole, (0, here_one granted_again, (refl, live_granted)), refl, omega arith)
+  is_applied = inl (give whole, (0, here_one, (refl, live_granted)), refl, omega arith)
 
   -- the server's steps
   plain_words : IsBare Restarted
@@ -450,7 +450,7 @@ module _ (whole : Span) where
   admits_may = record { writes = tt; admits = (admits_them, tt); sends = (sends_bare (Admits client (claim whole).tokens ∷ asked_again) (Reclaimed claimed) refl (record { grant = λ w p. cc; done = λ w p. cc; revoke = λ r p. cc }) (λ n p. absurd (cc)) (λ r p. cc), tt); reserves = reserves_may whole (Sent client 2 0 (Reclaimed claimed) ∷ Admits client (claim whole).tokens ∷ asked_again) }
 
   pub stores_may : ServerStep site_one granted_again (stores whole)
-  stores_may = record { writes = tt; admits = tt; sends = (sends_bare stored (Gone (number_of (give whole))) refl (record { grant = λ w p. cc; done = λ w p. cc; revoke = λ r p. cc }) (λ n p. let q : number_of (give whole) ≡ n = cc in subst (λ (x : AppliedGive). (home x.fileset ≡ site_one) × IsApplied site_one stored client x) q (at_one, is_applied)) (λ r p. absurd (cc)), tt); reserves = reserves_may whole (Sent client 2 0 (Gone (number_of (give whole))) ∷ stored) }
+  stores_may = record { writes = tt; admits = tt; sends = (sends_bare stored (Gone (number_of (give whole))) refl (record { grant = λ w p. cc; done = λ w p. cc; revoke = λ r p. cc }) (λ n p. let q : number_of (give whole) ≡ n = cc in subst (λ (x : AppliedGive). Here site_one stored x.fileset 0 × IsApplied site_one stored client x) q (here_one, is_applied)) (λ r p. absurd (cc)), tt); reserves = reserves_may whole (Sent client 2 0 (Gone (number_of (give whole))) ∷ stored) }
 
   -- the run
   abbrev steps_9 : List Step
@@ -478,22 +478,22 @@ module _ (whole : Span) where
       subst (λ (x : Message). (x.host ≡ client) × (x.direction ≡ ToHost) × SentTo (doings_of 1 x.server past) client x.epoch x.moves x.body) p (refl, refl, sent)
 
   run_9 : IsTokenRun (λ v. 1) steps_9
-  run_9 = (a_run whole, (restarts_may, λ m e. absurd (cc)), from_it Restarted)
+  run_9 = (a_run whole, (restarts_may, λ m e. absurd (cc)), from_it Restarted, refl)
 
   run_10 : IsTokenRun (λ v. 1) steps_10
-  run_10 = (run_9, (reclaims_may, host_cause steps_9 (reclaims whole) Restarted refl (inr (inl refl))), to_it whole 2 (Reclaim (claim whole)))
+  run_10 = (run_9, (reclaims_may, host_cause steps_9 (reclaims whole) Restarted refl (inr (inl refl))), to_it whole 2 (Reclaim (claim whole)), refl)
 
   run_11 : IsTokenRun (λ v. 1) steps_11
-  run_11 = (run_10, (admits_may, server_cause whole steps_10 (admits whole) 2 (Reclaim (claim whole)) refl (inl (to_server 2 (Reclaim (claim whole)), inl refl, refl, refl, refl, refl))), from_it (Reclaimed claimed))
+  run_11 = (run_10, (admits_may, server_cause whole steps_10 (admits whole) 2 (Reclaim (claim whole)) refl (inl (to_server 2 (Reclaim (claim whole)), inl refl, refl, refl, refl, refl))), from_it (Reclaimed claimed), refl)
 
   run_12 : IsTokenRun (λ v. 1) steps_12
-  run_12 = (run_11, (gives_may, host_cause steps_11 (gives whole) (Reclaimed claimed) refl (inr (inl refl))), to_it whole 2 (GiveBack (give whole)))
+  run_12 = (run_11, (gives_may, host_cause steps_11 (gives whole) (Reclaimed claimed) refl (inr (inl refl))), to_it whole 2 (GiveBack (give whole)), refl)
 
   run_13 : IsTokenRun (λ v. 1) steps_13
-  run_13 = (run_12, (stores_may, server_cause whole steps_12 (stores whole) 2 (GiveBack (give whole)) refl (inl (to_server 2 (GiveBack (give whole)), inl refl, refl, refl, refl, refl))), from_it (Gone (number_of (give whole))))
+  run_13 = (run_12, (stores_may, server_cause whole steps_12 (stores whole) 2 (GiveBack (give whole)) refl (inl (to_server 2 (GiveBack (give whole)), inl refl, refl, refl, refl, refl))), from_it (Gone (number_of (give whole))), refl)
 
   pub restart_run : IsTokenRun (λ v. 1) (worked_restart whole)
-  restart_run = (run_13, (learns_may, host_cause steps_13 (learns whole) (Gone (number_of (give whole))) refl (inr (inl refl))), λ m i. elim i [ ])
+  restart_run = (run_13, (learns_may, host_cause steps_13 (learns whole) (Gone (number_of (give whole))) refl (inr (inl refl))), λ m i. elim i [ ], refl)
 
   pub was_applied : IsApplied site_one (doings_of 1 site_one (worked_restart whole)) client (number_of (give whole))
   was_applied = inr (inr is_applied)

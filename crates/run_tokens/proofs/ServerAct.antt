@@ -32,7 +32,9 @@ use Rattle.message_types.specs.declared.giving.Outstanding.{Outstanding}
 use Rattle.message_types.specs.declared.giving.Reclaim.{Reclaim as ReclaimOf}
 use Rattle.message_types.specs.declared.giving.Reclaimed.{Reclaimed as ReclaimedOf}
 use Rattle.run_rules.specs.declared.step.Step.{Step}
+use Rattle.run_tokens.specs.Unmoved.{MovesOne}
 use Rattle.run_tokens.proofs.Owed.{Stays, Owed}
+use Rattle.run_tokens.proofs.Unmoved.{here_on, here_was, put_on}
 use Rattle.run_tokens.proofs.Words.{said_returned, returned_left, made_left, of_two, brings_one, mark_is, made_at, took_applied}
 use Rattle.run_tokens.proofs.Invariant.{Served, Alone, Link, Good, Spent, Brought, OwedId, IssuedBelow, Claiming}
 
@@ -51,7 +53,7 @@ record New (v : ServerId) (S : List Doing) (a : Doing) (t : Token) (k : StayStam
 none_in : (t : Token) (ts : List Token) → ts ≡ [] → In t ts → ⊥
 none_in t ts e m = subst (In t) e m
 
-module _ (v : ServerId) (S : List Doing) (a : Doing) (served : Served v S) (may : ServerTokens v S a) (quiet : IsNewEpoch a → ⊥) (same : epoch (a ∷ S) ≡ epoch S) (granted_owed : (t : Token) → Granted v S t → Owed v S t) where
+module _ (v : ServerId) (S : List Doing) (a : Doing) (served : Served v S) (may : ServerTokens v S a) (quiet : IsNewEpoch a → ⊥) (still : MovesOne a → ⊥) (same : epoch (a ∷ S) ≡ epoch S) (granted_owed : (t : Token) → Granted v S t → Owed v S t) where
   issues : (t : Token) (k : StayStamp) → Issues a t k → New v S a t k ⊎ (Issued S t k × Granted v S t)
   issues t k (h, d, w, inl (g, e, b), m, q) =
       let n = may.grants h d k.moves g e in
@@ -101,7 +103,9 @@ module _ (v : ServerId) (S : List Doing) (a : Doing) (served : Served v S) (may 
   id' t k i = elim (issued t k i) [ inl n ↦ n.may.id t n.in_it | inr o ↦ served.id t k o ]
 
   at' : (t : Token) (k : StayStamp) → Issued (a ∷ S) t k → Here v (a ∷ S) t.fid.fileset k.moves
-  at' t k i = elim (issued t k i) [ inl n ↦ subst (λ (f : Fid). Here v S f.fileset k.moves) (sym (n.may.file t n.in_it)) n.may.home | inr o ↦ served.at t k o ]
+  at' t k i =
+      here_on v a S t.fid.fileset k.moves still
+      (elim (issued t k i) [ inl n ↦ subst (λ (f : Fid). Here v S f.fileset k.moves) (sym (n.may.file t n.in_it)) n.may.home | inr o ↦ served.at t k o ])
 
   issued_epoch' : (t : Token) (k : StayStamp) → Issued (a ∷ S) t k → t.id.epoch ≤ epoch (a ∷ S)
   issued_epoch' t k i = elim (issued t k i) [ inl n ↦ (let e = n.may.now t n.in_it in omega (arith, same)) | inr o ↦ (let e = served.issued_epoch t k o in omega (arith, same)) ]
@@ -208,6 +212,7 @@ module _ (v : ServerId) (S : List Doing) (a : Doing) (served : Served v S) (may 
 
   pub served_act : Served v (a ∷ S)
   served_act = record {
+    put = put_on a S still served.put;
     unique = unique';
     told = told';
     id = id';
@@ -228,7 +233,7 @@ module _ (v : ServerId) (S : List Doing) (a : Doing) (served : Served v S) (may 
     reserved = reserved';
   }
 
-module _ (h : HostId) (v : ServerId) (A : List Step) (S : List Doing) (a : Doing) (served : Served v S) (may : ServerTokens v S a) (quiet : IsNewEpoch a → ⊥) (same : epoch (a ∷ S) ≡ epoch S) (granted_owed : (t : Token) → Granted v S t → Owed v S t) (alone : Alone A) (link : Link h v A S) (came : (d n : ℕ) (b : Body) → a ≡ Took h d n b → Said A v d n b) where
+module _ (h : HostId) (v : ServerId) (A : List Step) (S : List Doing) (a : Doing) (served : Served v S) (may : ServerTokens v S a) (quiet : IsNewEpoch a → ⊥) (still : MovesOne a → ⊥) (same : epoch (a ∷ S) ≡ epoch S) (granted_owed : (t : Token) → Granted v S t → Owed v S t) (alone : Alone A) (link : Link h v A S) (came : (d n : ℕ) (b : Body) → a ≡ Took h d n b → Said A v d n b) where
   took_made : (fs : FilesetId) (g : Give) → TakesOf v S a h fs (GiveBack g) → Made A g
   took_made fs g e = (alone.said_made g v (epoch S) e.0 (came (epoch S) e.0 (GiveBack g) e.2.0)).0
 
@@ -256,12 +261,14 @@ module _ (h : HostId) (v : ServerId) (A : List Step) (S : List Doing) (a : Doing
 
   -- what a claim says of a fileset that was made here is of its stay here
   named_here : (c : ReclaimOf) (o : Outstanding) → Claiming v S h A c → In o c.numbers → home o.fileset ≡ v → Here v S o.fileset o.moves
-  named_here c o k m at = let moves = alone.claim_moves v k.epoch_is k.moves c o k.said m in λ i. record { server = at i; moves = sym moves i }
+  named_here c o k m at =
+      let moves = alone.claim_moves v k.epoch_is k.moves c o k.said m in
+      here_was v S o.fileset o.moves served.put (λ i. record { server = at i; moves = sym moves i })
 
   claims_here : (c : ReclaimOf) (t : Token) (x : StayStamp) → Claiming v S h A c → Issued S t x → In t c.tokens → ClaimsHere v S c t
   claims_here c t x k i m =
       let o = alone.claim_numbers v k.epoch_is k.moves c t k.said m in
-      (o.0, o.1, o.2, named_here c o.0 k o.1 (ap home o.2 ∙ made_at v S t.fid.fileset x.moves (served.at t x i)))
+      (o.0, o.1, o.2, named_here c o.0 k o.1 (ap home o.2 ∙ made_at v S t.fid.fileset x.moves served.put (served.at t x i)))
 
   -- what a counting claim calls outstanding was taken in this epoch
   named_given : (ts : List Token) (p : MayAdmit v S h ts) (g : Give) (i : TokenId) → Made A g → In i g.ids → i.server ≡ v → NamesGive p.claim.numbers g → GivenUp v S h i
@@ -301,7 +308,7 @@ module _ (h : HostId) (v : ServerId) (A : List Step) (S : List Doing) (a : Doing
 
   asked' : (t : Token) (k : StayStamp) → Issued (a ∷ S) t k → t.host ≡ h → t.id.epoch ≤ epoch_at A v
   asked' t k i mine =
-      elim (issued v S a served may quiet same granted_owed t k i) [
+      elim (issued v S a served may quiet still same granted_owed t k i) [
         | inl n ↦ (let to : TookNow S h k.moves n.ask = subst (λ j. TookNow S j k.moves n.ask) (sym (n.may.host_is t n.in_it) ∙ mine) n.asked in let lo = alone.said_epoch v (epoch S) k.moves n.ask (link.took k.moves n.ask to) in let e = n.may.now t n.in_it in omega arith)
         | inr o ↦ link.asked t k o mine
       ]
@@ -381,7 +388,7 @@ module _ (h : HostId) (v : ServerId) (A : List Step) (S : List Doing) (a : Doing
   applied_now : (g k : Give) → Made A g → TakesOf v S a h g.fid.fileset (GiveBack k) → k.fid.fileset ≡ g.fid.fileset → g.number ≤ k.number → IsApplied v S h (number_of g) ⊎ (k ≡ g)
   applied_now g k m e f le =
       elim (cases_lt g.number k.number) [
-        | inl lt ↦ inl (link.known (number_of g) (made_at v S g.fid.fileset e.0 e.1) (alone.said_first k g v (epoch S) e.0 (came (epoch S) e.0 (GiveBack k) e.2.0) m (sym f) lt))
+        | inl lt ↦ inl (link.known (number_of g) (made_at v S g.fid.fileset e.0 served.put e.1) (alone.said_first k g v (epoch S) e.0 (came (epoch S) e.0 (GiveBack k) e.2.0) m (sym f) lt))
         | inr ge ↦ inr (alone.numbers k g (took_made g.fid.fileset k e) m f (omega arith))
       ]
 
@@ -455,7 +462,7 @@ module _ (h : HostId) (v : ServerId) (A : List Step) (S : List Doing) (a : Doing
 
       go : IsApplied v (a ∷ S) h (number_of g) → Granted v (a ∷ S) t → ⊥
       go p (inl (inl i)) =
-          elim (issues v S a served may quiet same granted_owed t i.0 i.1) [
+          elim (issues v S a served may quiet still same granted_owed t i.0 i.1) [
             | inl f ↦ fresh i.0 f
             | inr o ↦ elim (before p) [ inl q ↦ link.taken g t m n mine q o.1 | inr e ↦ took_brings e i.0 i.1 ]
           ]

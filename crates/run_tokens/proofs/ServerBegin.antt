@@ -12,6 +12,7 @@ use Rattle.run_rules.specs.Doings.{BringsTokens, Doing, Granted, HasGoneAway, Ha
 use Rattle.run_rules.specs.Doings.{epoch}
 use Rattle.run_rules.specs.Doings.Doing.{BeginsEpoch}
 use Rattle.run_tokens.proofs.Owed.{Stays, Owed}
+use Rattle.run_tokens.proofs.Unmoved.{put_on}
 use Rattle.run_tokens.proofs.Invariant.{Served, Alone, Link, Brought, Claiming}
 
 module _ (v : ServerId) (S : List Doing) (n : ℕ) where
@@ -61,6 +62,7 @@ module _ (v : ServerId) (S : List Doing) (n : ℕ) where
 
   pub served_begin : epoch S < n → Served v S → Served v (BeginsEpoch n ∷ S)
   served_begin up served = record {
+    put = put_on (BeginsEpoch n) S (λ m. let q = m.1 in cc) served.put;
     unique = λ t u x y i j. served.unique t u x y (old t x i) (old u y j);
     told = λ t x i e. absurd (let le = served.issued_epoch t x (old t x i) in omega arith);
     id = λ t x i. served.id t x (old t x i);

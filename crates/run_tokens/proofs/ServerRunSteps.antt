@@ -59,8 +59,9 @@ at_one : home root.fileset ≡ site_one
 unfolding home
 at_one = refl
 
-is_here : (past : List Doing) → Here site_one past root.fileset 0
-is_here past = λ i. record { server = at_one i; moves = 0 }
+is_here : Here site_one [] root.fileset 0
+unfolding home
+is_here = refl
 
 -- the server's doings before each step
 abbrev pub began : List Doing
@@ -491,7 +492,7 @@ new_wanted_root = asked_new whole
 fetch_request : IsNewRequest site_one told fetching (grants whole) client 0 (Asks (asks_for whole))
 fetch_request = record {
   taken = ((to_server 1 (Fetch (asks_for whole)), refl, refl, refl, refl, refl), live told (told_new whole));
-  here = is_here told;
+  here = is_here;
   fresh = λ old. old;
   alone = λ w waits. absurd (none_waits_fetching w waits);
 }

@@ -1,10 +1,12 @@
 -- How the words follow from one another.
 use Rattle.run_rules.specs.Doings.{BringsTokens, Doing, GivenUp, Here, IsApplied, StayStamp, TookOf, after_step}
-use Rattle.run_rules.specs.Messages.{Said, Stay, epoch_at, epoch_raised, epoch_raised_by, home}
+use Rattle.run_rules.specs.Messages.{Said, Stay, StaysAt, epoch_at, epoch_raised, epoch_raised_by, first_stay, home}
 use Rattle.run_rules.specs.Past.{In}
 use Rattle.run_rules.specs.Steps.{is_node}
 use Rattle.run_rules.specs.Tokens.{Made, number_of}
 use Rattle.run_tokens.specs.TokenLaws.{HasLeftHost, HasReturnedToken, TookEver}
+use Rattle.run_tokens.specs.Unmoved.{StaysPut}
+use Rattle.run_tokens.proofs.Unmoved.{here_is, here_was}
 use Rattle.std.proofs.Common.{◌≡◌, ℕ, ◌⊎◌, ◌==◌, ◌&&◌, ◌≤◌, nat_lt, not, Bool, true, false, if◌then◌else◌, List, [], ◌∷◌, inl, inr, sym, ◌∙◌, ap, refl, arith, eqb-true, ltb-true}
 use Rattle.std.proofs.lemmas.Bool.{and_parts, false≢true}
 use Rattle.base_types.specs.declared.ids.HostId.{HostId}
@@ -83,19 +85,28 @@ pub mark_is : (k l : StayStamp) → k.moves ≡ l.moves → k.stamp ≡ l.stamp 
 mark_is k l moves stamp = λ i. record { moves = moves i; stamp = stamp i }
 
 -- a fileset that is at a server was made there, and a fileset of which a give-back is applied is there
-pub made_at : (v : ServerId) (S : List Doing) (fs : FilesetId) (n : ℕ) → Here v S fs n → home fs ≡ v
-made_at v S fs n here = ap (λ (p : Stay). p.server) here
+pub made_at : (v : ServerId) (S : List Doing) (fs : FilesetId) (n : ℕ) → StaysPut S → Here v S fs n → home fs ≡ v
+made_at v S fs n put here = ap (λ (p : Stay). p.server) (here_is v S fs n put here)
 
-pub never_moved : (v : ServerId) (S : List Doing) (fs : FilesetId) (n : ℕ) → Here v S fs n → 0 ≡ n
-never_moved v S fs n here = ap (λ (p : Stay). p.moves) here
+pub never_moved : (v : ServerId) (S : List Doing) (fs : FilesetId) (n : ℕ) → StaysPut S → Here v S fs n → 0 ≡ n
+never_moved v S fs n put here = ap (λ (p : Stay). p.moves) (here_is v S fs n put here)
 
-pub stays_here : (v : ServerId) (S : List Doing) (fs : FilesetId) → home fs ≡ v → Here v S fs 0
-stays_here v S fs at = λ i. record { server = at i; moves = 0 }
+pub stays_here : (v : ServerId) (S : List Doing) (fs : FilesetId) → StaysPut S → home fs ≡ v → Here v S fs 0
+stays_here v S fs put at = here_was v S fs 0 put (λ i. record { server = at i; moves = 0 })
 
-pub applied_at : (v : ServerId) (S : List Doing) (h : HostId) (n : AppliedGive) → IsApplied v S h n → home n.fileset ≡ v
-applied_at v [] h n a = elim a [ ]
-applied_at v (a ∷ S) h n (inl (g, (m, here, _), _, _)) = made_at v S n.fileset m here
-applied_at v (a ∷ S) h n (inr o) = applied_at v S h n o
+-- a host takes a fileset to be where it was made, in its first stay
+pub stay_first : (A : List Step) (fs : FilesetId) (v : ServerId) (n : ℕ) → StaysAt A fs v n
+    → first_stay fs ≡ record { server = v; moves = n }
+stay_first A fs v n stays = stays
+
+pub first_stays : (A : List Step) (fs : FilesetId) (v : ServerId) (n : ℕ)
+    → first_stay fs ≡ record { server = v; moves = n } → StaysAt A fs v n
+first_stays A fs v n first = first
+
+pub applied_at : (v : ServerId) (S : List Doing) (h : HostId) (n : AppliedGive) → StaysPut S → IsApplied v S h n → home n.fileset ≡ v
+applied_at v [] h n put a = elim a [ ]
+applied_at v (a ∷ S) h n put (inl (g, (m, here, _), _, _)) = made_at v S n.fileset m (λ o. put (inr o)) here
+applied_at v (a ∷ S) h n put (inr o) = applied_at v S h n (λ o. put (inr o)) o
 
 -- what was taken in this epoch was taken
 pub took_ever : (v : ServerId) (S : List Doing) (h : HostId) (fs : FilesetId) (b : Body) → TookOf v S h fs b → TookEver v S h fs b

@@ -8,6 +8,7 @@ pub mod Evictions
 pub mod ServerRest
 pub mod Turns
 pub mod RunWorked
+pub mod Unmoved
 pub mod TokenLaws
 pub mod Pasts
 pub mod DoingNothing

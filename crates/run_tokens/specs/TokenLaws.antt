@@ -27,6 +27,7 @@ use Rattle.run_rules.specs.Steps.{steps_of_host}
 use Rattle.run_rules.specs.Tokens.{Held, LeavesHost, Made, number_of}
 use Rattle.run_rules.specs.declared.applied.Written.{Written}
 use Rattle.run_rules.specs.declared.step.Step.{Step}
+use Rattle.run_tokens.specs.Unmoved.{MovesNone}
 
 -- a Returned of an earlier step
 abbrev pub HasReturnedToken : List Step → TokenId → Type 0
@@ -46,11 +47,13 @@ StepMay firsts (Host host) past s = HostTokens (steps_of_host host past) s × Ca
 StepMay firsts (Server server) past s =
     ServerStep server (doings_of (firsts server) server past) s × CameToServer server past s
 
--- Each step meets the rules of its node, and its cause was sent before. `firsts` are the epochs in which servers start.
+-- Each step meets the rules of its node, its cause was sent before, and it moves no fileset. `firsts` are the epochs in
+-- which servers start.
 abbrev pub IsTokenRun : (ServerId → ℕ) → List Step → Type 0
 IsTokenRun firsts [] = (server : ServerId) → 0 < firsts server
 IsTokenRun firsts (s ∷ past) =
     IsTokenRun firsts past × StepMay firsts s.node past s × ((m : Message) → In m s.sent → IsFrom s.node m)
+    × MovesNone s
 
 -- the doing applies the host's give-back: it takes it, and neither it nor a later one of its fileset was taken before
 abbrev pub Applies : ServerId → List Doing → Doing → HostId → Give → Type 0

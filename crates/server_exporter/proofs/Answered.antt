@@ -94,7 +94,7 @@ module _ (past : List Doing) (x : Tables) (st : StoreState) (tree : Tree) (z : S
   came = came_at x st s at p place
 
   home : w.moves ≡ 0
-  home = (here_from x.server past f.fid.fileset w.moves
+  home = (here_from x.server past f.fid.fileset w.moves z.slots
       (subst (IsAskedHere x.server past w.moves) is
       (z.wants.here w (z.wants.pending p (placed_in x.pending at p place))))).0
 
@@ -345,7 +345,7 @@ module _ (past : List Doing) (x : Tables) (st : StoreState) (tree : Tree) (z : S
         let under : c.fileset ≡ granted.bring.fid.fileset =
         sym (meant.1 label) ∙ ap (λ (f : Fid). f.fileset) (sym fid_is) in
         tokens_with past x z v v_waits c is can.over granted refl refl can own
-        (here_to x.server past granted.bring.fid.fileset v.moves (change_home past x z v v_waits c is)
+        (here_to x.server past granted.bring.fid.fileset v.moves z.slots (change_home past x z v v_waits c is)
         (subst (λ (f : Fid). is_of x.server f.fileset ≡ true) (sym first) (here (need_of t) (made_for t i).need))) under
         (λ need j. of_row.1 label need j ∙ sym fid_is) its_are refl
 

@@ -2,6 +2,7 @@
 -- and the tables stand then.
 use Rattle.std.proofs.Common.{◌≡◌, ◌⊎◌, ◌==◌, ◌&&◌, ℕ, Bool, true, false, not, List, [], ◌∷◌, ◌++◌, map, inl, inr}
 use Rattle.std.proofs.Common.{refl, sym, ◌∙◌, ap, subst, eq-eqb}
+use Rattle.std.specs.List.{list_any}
 use Rattle.std.proofs.lemmas.Bool.{and_from, and_parts, false≢true}
 use Rattle.std.proofs.lemmas.List.{append-nil, append_assoc}
 use Rattle.base_types.specs.declared.ids.FilesetId.{FilesetId}
@@ -64,6 +65,7 @@ use Rattle.server_decides.proofs.Chains.{goes_keeps}
 use Rattle.server_decides.proofs.Picks.{picked_apart, picked_are}
 use Rattle.server_exporter.proofs.Decisions.{AreMute, mute_ready}
 use Rattle.server_exporter.proofs.Lapses.{in_turn_both, once_both, sending_append}
+use Rattle.run_tokens.specs.Unmoved.{is_move}
 use Rattle.server_exporter.proofs.Making.{as_sent}
 
 abbrev pub said_to : Tables → HostId → List ReclaimedOf → List Message
@@ -216,7 +218,7 @@ word_heard : (server : ServerId) (p q : List Doing) (h : HostId) (n : ℕ) (b : 
     → IsWordOf server p h n b → IsWordOf server q h n b
 word_heard server p q h n b s c = record {
   blank = c.blank;
-  gone = λ o e. (let x = c.gone o e in (x.0, (s.applied h o).0 x.1));
+  gone = λ o e. (let x = c.gone o e in (sym (s.slots o.fileset) ∙ x.0, (s.applied h o).0 x.1));
   reclaimed = λ r o e i. (s.applied h o).0 (c.reclaimed r o e i);
   left_out = λ r o e i. (s.given_up h o).0 (c.left_out r o e i);
 }
@@ -312,6 +314,7 @@ module _ (cause : Cause) (past : List Doing) where
 
   -- what was granted so far
   pub record IsGranting (x : Tables) (d : Draft) : Type 0 where
+    pub none : list_any is_move d.applied ≡ false
     pub stands : Stands (said_in d) x
     pub answered : AnsweredStand (said_in d) x.recovering.answers
     -- a claim that waits is of a live host that hasn't reclaimed
@@ -358,7 +361,7 @@ module _ (cause : Cause) (past : List Doing) where
     inner = admit_inner a.host a.tokens
 
     its : In c x.recovering.claims
-    its = (ripe_is before x.server x.recovering g.stands.recovery c one.next.ripe).0
+    its = (ripe_is before x.server x.recovering g.stands.slots g.stands.recovery c one.next.ripe).0
 
     never : HasReclaimed before c.host → ⊥
     never = (g.waits c its).0
@@ -525,6 +528,7 @@ module _ (cause : Cause) (past : List Doing) where
 
     pub granted_one : IsGranting y e
     granted_one = subst (λ (w : Draft). IsGranting y w) (sym one.so.draft) (record {
+      none = g.none;
       stands = stands_one;
       answered = answered_one;
       waits = waits_one;

@@ -158,6 +158,7 @@ module _ (tree : Tree) (past : List Doing) (x : Exporter) (z : IsAt past tree x)
       let v = light_wants t.server t.stamp past m.host m.epoch m.moves Hello l waiting in
       let a = light_answers t.server t.stamp past m.host m.epoch m.moves Hello l waiting in
       record {
+        slots = s.slots;
         hosts = hosts_listed past m.host m.epoch m.moves new up t.hosts s.hosts;
         tokens = tokens_still past had calm t.server n s.tokens;
         stamps = stamps_still past had calm t.server n

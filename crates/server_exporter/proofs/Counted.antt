@@ -1,6 +1,7 @@
 -- Each claim that counts is admitted in the step, and answered.
 use Rattle.std.proofs.Common.{◌≡◌, ◌⊎◌, ◌==◌, true, not, List, [], ◌∷◌, ◌++◌, None, inl, inr, refl, sym, ◌∙◌}
-use Rattle.std.proofs.Common.{ap, subst, eqb-true}
+use Rattle.std.proofs.Common.{ap, false, subst, eqb-true}
+use Rattle.std.specs.List.{list_any}
 use Rattle.std.proofs.lemmas.Bool.{and_from, cases_Bool}
 use Rattle.base_types.specs.declared.ids.HostId.{HostId}
 use Rattle.base_types.specs.declared.ids.ServerId.{ServerId}
@@ -36,6 +37,7 @@ use Rattle.server_decides.specs.Going.{GoesTo}
 use Rattle.server_decides.proofs.Chains.{goes_keeps}
 use Rattle.server_exporter.proofs.Claims.{IsGranting, admitted_in, decided_in, granted_one, said_in, said_to}
 use Rattle.server_exporter.proofs.Claims.{sent_heard}
+use Rattle.run_tokens.specs.Unmoved.{is_move}
 use Rattle.server_exporter.proofs.Onsets.{SaysTo}
 
 -- # What was heard before the decisions, claims and words of a step
@@ -44,16 +46,17 @@ module _ (server : ServerId) where
   one_heard : (p : List Doing) (a : Doing) → IsInner a → SameHeard server p (a ∷ p)
   one_heard p a i = heard_back (heard_inner server p a i)
 
-  pub applied_heard : (applied : List Applied) (p : List Doing) → SameHeard server p (appended (deciding applied) p)
-  applied_heard [] p = heard_same server p
-  applied_heard (Wants w ∷ more) p =
-      heard_then (one_heard p (MakesWant w) (want_inner w)) (applied_heard more (MakesWant w ∷ p))
-  applied_heard (IsDone v ∷ more) p =
-      heard_then (one_heard p (WritesDown v) (write_inner v)) (applied_heard more (WritesDown v ∷ p))
-  applied_heard (IsDown host ∷ more) p = applied_heard more p
-  applied_heard (IsMoved move ∷ more) p = applied_heard more p
-  applied_heard (Replied answer ∷ more) p = applied_heard more p
-  applied_heard (Stored host fid spans length ∷ more) p = applied_heard more p
+  pub applied_heard : (applied : List Applied) → list_any is_move applied ≡ false → (p : List Doing)
+      → SameHeard server p (appended (deciding applied) p)
+  applied_heard [] none p = heard_same server p
+  applied_heard (Wants w ∷ more) none p =
+      heard_then (one_heard p (MakesWant w) (want_inner w)) (applied_heard more none (MakesWant w ∷ p))
+  applied_heard (IsDone v ∷ more) none p =
+      heard_then (one_heard p (WritesDown v) (write_inner v)) (applied_heard more none (WritesDown v ∷ p))
+  applied_heard (IsDown host ∷ more) none p = applied_heard more none p
+  applied_heard (IsMoved move ∷ more) none p = absurd (cc)
+  applied_heard (Replied answer ∷ more) none p = applied_heard more none p
+  applied_heard (Stored host fid spans length ∷ more) none p = applied_heard more none p
 
   admitted_heard : (more : List Admission) (p : List Doing) → SameHeard server p (appended (admitting more) p)
   admitted_heard [] p = heard_same server p
@@ -61,43 +64,43 @@ module _ (server : ServerId) where
       heard_then (one_heard p (Admits a.host a.tokens) (admit_inner a.host a.tokens))
       (admitted_heard more (Admits a.host a.tokens ∷ p))
 
-  pub said_heard : (cause : Cause) (past : List Doing) (d : Draft)
+  pub said_heard : (cause : Cause) (past : List Doing) (d : Draft) → list_any is_move d.applied ≡ false
       → SameHeard server (after_cause cause past) (said_in cause past d)
-  said_heard cause past d =
-      heard_then (applied_heard d.applied (after_cause cause past))
+  said_heard cause past d none =
+      heard_then (applied_heard d.applied none (after_cause cause past))
       (heard_then (admitted_heard d.admitted (decided_in cause past d))
       (sent_heard server d.sent (admitted_in cause past d)))
 
   -- no decision lets a host reclaim
-  pub applied_was : (applied : List Applied) (p : List Doing) (h : HostId)
+  pub applied_was : (applied : List Applied) → list_any is_move applied ≡ false → (p : List Doing) (h : HostId)
       → HasReclaimed (appended (deciding applied) p) h → HasReclaimed p h
-  applied_was [] p h r = r
-  applied_was (Wants w ∷ more) p h r =
-      elim ((reclaimed_inner server p (MakesWant w) (want_inner w) h).0 (applied_was more (MakesWant w ∷ p) h r)) [
+  applied_was [] none p h r = r
+  applied_was (Wants w ∷ more) none p h r =
+      elim ((reclaimed_inner server p (MakesWant w) (want_inner w) h).0 (applied_was more none (MakesWant w ∷ p) h r)) [
         | inl q ↦ absurd (let e = q.1 in cc)
         | inr q ↦ q
       ]
-  applied_was (IsDone v ∷ more) p h r =
-      elim ((reclaimed_inner server p (WritesDown v) (write_inner v) h).0 (applied_was more (WritesDown v ∷ p) h r)) [
+  applied_was (IsDone v ∷ more) none p h r =
+      elim ((reclaimed_inner server p (WritesDown v) (write_inner v) h).0 (applied_was more none (WritesDown v ∷ p) h r)) [
         | inl q ↦ absurd (let e = q.1 in cc)
         | inr q ↦ q
       ]
-  applied_was (IsDown host ∷ more) p h r = applied_was more p h r
-  applied_was (IsMoved move ∷ more) p h r = applied_was more p h r
-  applied_was (Replied answer ∷ more) p h r = applied_was more p h r
-  applied_was (Stored host fid spans length ∷ more) p h r = applied_was more p h r
+  applied_was (IsDown host ∷ more) none p h r = applied_was more none p h r
+  applied_was (IsMoved move ∷ more) none p h r = absurd (cc)
+  applied_was (Replied answer ∷ more) none p h r = applied_was more none p h r
+  applied_was (Stored host fid spans length ∷ more) none p h r = applied_was more none p h r
 
-  pub applied_is : (applied : List Applied) (p : List Doing) (h : HostId) → HasReclaimed p h
-      → HasReclaimed (appended (deciding applied) p) h
-  applied_is [] p h r = r
-  applied_is (Wants w ∷ more) p h r =
-      applied_is more (MakesWant w ∷ p) h ((reclaimed_inner server p (MakesWant w) (want_inner w) h).1 (inr r))
-  applied_is (IsDone v ∷ more) p h r =
-      applied_is more (WritesDown v ∷ p) h ((reclaimed_inner server p (WritesDown v) (write_inner v) h).1 (inr r))
-  applied_is (IsDown host ∷ more) p h r = applied_is more p h r
-  applied_is (IsMoved move ∷ more) p h r = applied_is more p h r
-  applied_is (Replied answer ∷ more) p h r = applied_is more p h r
-  applied_is (Stored host fid spans length ∷ more) p h r = applied_is more p h r
+  pub applied_is : (applied : List Applied) → list_any is_move applied ≡ false → (p : List Doing) (h : HostId)
+      → HasReclaimed p h → HasReclaimed (appended (deciding applied) p) h
+  applied_is [] none p h r = r
+  applied_is (Wants w ∷ more) none p h r =
+      applied_is more none (MakesWant w ∷ p) h ((reclaimed_inner server p (MakesWant w) (want_inner w) h).1 (inr r))
+  applied_is (IsDone v ∷ more) none p h r =
+      applied_is more none (WritesDown v ∷ p) h ((reclaimed_inner server p (WritesDown v) (write_inner v) h).1 (inr r))
+  applied_is (IsDown host ∷ more) none p h r = applied_is more none p h r
+  applied_is (IsMoved move ∷ more) none p h r = absurd (cc)
+  applied_is (Replied answer ∷ more) none p h r = applied_is more none p h r
+  applied_is (Stored host fid spans length ∷ more) none p h r = applied_is more none p h r
 
 -- # Claims
 
@@ -132,13 +135,13 @@ module _ (server : ServerId) (cause : Cause) (past : List Doing) (h : HostId) (c
   given : (m : Made) → IsWaiting m → HasTakenGives m.tables.server (said_in cause past m.draft) h claim
   given m z = subst (λ (v : ServerId). HasTakenGives v (said_in cause past m.draft) h claim) (sym z.server_is)
       (λ o i some here. (let g = taken o i some here in
-      (g.0, ((said_heard server cause past m.draft).took_of h o.fileset (GiveBack g.0)).0 g.1, g.2, g.3)))
+      (g.0, ((said_heard server cause past m.draft z.granting.none).took_of h o.fileset (GiveBack g.0)).0 g.1, g.2, g.3)))
 
   has_its : (m : Made) → IsWaiting m → In its m.tables.recovering.claims
       → has_all m.tables.recovering.taken m.tables.server h claim ≡ true
   has_its m z i =
       let w = z.granting.waits its i in
-      taken_all (said_in cause past m.draft) m.tables.server m.tables.recovering z.granting.stands.recovery h w.0 w.1.1
+      taken_all (said_in cause past m.draft) m.tables.server m.tables.recovering z.granting.stands.slots z.granting.stands.recovery h w.0 w.1.1
       claim (given m z)
 
   abbrev its_ad : (a b : Made) → AdmitsOne a b → Admission
@@ -201,13 +204,13 @@ module _ (server : ServerId) (cause : Cause) (past : List Doing) (h : HostId) (c
           (subst (λ (k : HostId). has_all a.tables.recovering.taken a.tables.server k claim ≡ true) same
           (has_its a z i)) in
           let there = one.so.are.all its i ripe in
-          let by_tables = answers_claim past_a a.tables.server a.tables.recovering z.granting.stands.recovery h w.0
+          let by_tables = answers_claim past_a a.tables.server a.tables.recovering z.granting.stands.slots z.granting.stands.recovery h w.0
           w.1.1
           claim in
           let so : AnswersClaim server begun h claim answer =
           subst (λ (v : ServerId). AnswersClaim v begun h claim answer) z.server_is
           (answers_so a.tables.server past_a begun h claim answer
-          (heard_back (said_heard a.tables.server cause past a.draft))
+          (heard_back (said_heard a.tables.server cause past a.draft z.granting.none))
           (subst (λ (k : HostId). AnswersClaim a.tables.server past_a h claim (answer_of a.tables.recovering k claim))
           same by_tables)) in (
             (

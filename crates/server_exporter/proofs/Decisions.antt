@@ -1,7 +1,7 @@
 -- The decisions of a step, one after the other: the rules allow each on what was decided before it.
-use Rattle.std.proofs.Common.{◌≡◌, ℕ, true, List, [], ◌∷◌, ◌++◌}
+use Rattle.std.proofs.Common.{◌≡◌, ℕ, false, true, List, [], ◌∷◌, ◌++◌}
 use Rattle.std.proofs.Common.{inl, inr, refl, sym, ◌∙◌, ap, subst}
-use Rattle.std.specs.List.{list_all}
+use Rattle.std.specs.List.{list_all, list_any}
 use Rattle.std.proofs.lemmas.Bool.{and_from, and_parts}
 use Rattle.base_types.specs.declared.ids.HostId.{HostId}
 use Rattle.base_types.specs.declared.ids.ServerId.{ServerId}
@@ -23,7 +23,8 @@ use Rattle.run_rules.specs.ServerDecides.DecidedSo.{IsRefusedByTable, MeetsPinne
 use Rattle.run_rules.specs.ServerTokens.{ServerTokens}
 use Rattle.run_rules.specs.Wants.{Decides, IsQueued, body_of, needs_for}
 use Rattle.run_rules.specs.declared.applied.Applied.{Applied}
-use Rattle.run_rules.specs.declared.applied.Applied.TheVariants.{Done as IsDone, Wants as IsWanted}
+use Rattle.run_rules.specs.declared.applied.Applied.TheVariants.{Done as IsDone, IsDown, Moves, Replied, Stored}
+use Rattle.run_rules.specs.declared.applied.Applied.TheVariants.{Wants as IsWanted}
 use Rattle.run_rules.specs.declared.applied.Request.{Request}
 use Rattle.run_rules.specs.declared.applied.Request.TheVariants.{Change as Changes, Fetch as Asks}
 use Rattle.run_rules.specs.declared.applied.Wanted.{Wanted}
@@ -42,6 +43,8 @@ use Rattle.server_tables.proofs.Making.{deciding_both, decides_more, kept_both, 
 use Rattle.server_decides.specs.Drafts.{word}
 use Rattle.server_decides.specs.Draft.{Draft}
 use Rattle.server_decides.specs.Writing.{done_of, written_of}
+use Rattle.run_tokens.specs.Unmoved.{is_move}
+use Rattle.run_tokens.proofs.TokenRun.{decide_none}
 use Rattle.server_exporter.proofs.Making.{as_sent, words_back}
 
 -- # Words that bring nothing, and decide nothing that waits
@@ -112,6 +115,17 @@ module _ (server : ServerId) (cause : Cause) (tree : Tree) (past : List Doing) w
     pub writes : EachInTurn (ServerTokens server) (deciding d.applied) begun
     pub may : (s : Step) → s.cause ≡ cause
         → MayDecideAll server (filesets_through cause base tree) past begun s more
+
+  -- what applies nothing but decisions moves nothing
+  pub moves_none : (base more : List Applied) → deciding base ≡ [] → list_all is_decision more ≡ true
+      → list_any is_move (base ++ more) ≡ false
+  moves_none [] more none all = decide_none more all
+  moves_none (IsWanted w ∷ xs) more none all = absurd (cc)
+  moves_none (IsDone v ∷ xs) more none all = absurd (cc)
+  moves_none (Moves move ∷ xs) more none all = absurd (cc)
+  moves_none (Replied answer ∷ xs) more none all = moves_none xs more none all
+  moves_none (Stored host fid spans length ∷ xs) more none all = moves_none xs more none all
+  moves_none (IsDown host ∷ xs) more none all = moves_none xs more none all
 
   pub all_end : (more : List Applied) (x : Applied) → list_all is_decision more ≡ true → is_decision x ≡ true
       → list_all is_decision (more ++ x ∷ []) ≡ true

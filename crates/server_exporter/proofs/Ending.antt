@@ -97,6 +97,7 @@ use Rattle.run_rules.specs.Tokens.{number_of}
 use Rattle.server_tables.specs.declared.recovering.Recovering.{Recovering}
 use Rattle.server_exporter.specs.Machines.{AreTold}
 use Rattle.server_exporter.proofs.Tolds.{told_admitted, told_caused, told_decided, told_words}
+use Rattle.run_rules.specs.Doings.{after_shipping}
 use Rattle.server_exporter.proofs.Middle.{AreGranted, HasCause, IsMid, cause_of, granted_of, mid_of}
 
 -- # What the cause applied stands before what was decided
@@ -116,7 +117,7 @@ by_cause_is [] more n e = none_by_cause more e
 by_cause_is (Wants w ∷ base) more n e = absurd (cc)
 by_cause_is (IsDone v ∷ base) more n e = absurd (cc)
 by_cause_is (IsDown host ∷ base) more n e = ap (λ l. IsDown host ∷ l) (by_cause_is base more n e)
-by_cause_is (IsMoved move ∷ base) more n e = ap (λ l. IsMoved move ∷ l) (by_cause_is base more n e)
+by_cause_is (IsMoved move ∷ base) more n e = absurd (cc)
 by_cause_is (Replied answer ∷ base) more n e = ap (λ l. Replied answer ∷ l) (by_cause_is base more n e)
 by_cause_is (Stored host fid spans length ∷ base) more n e =
     ap (λ l. Stored host fid spans length ∷ l) (by_cause_is base more n e)
@@ -136,7 +137,7 @@ decisions_are [] more n e = none_left more e
 decisions_are (Wants w ∷ base) more n e = absurd (cc)
 decisions_are (IsDone v ∷ base) more n e = absurd (cc)
 decisions_are (IsDown host ∷ base) more n e = decisions_are base more n e
-decisions_are (IsMoved move ∷ base) more n e = decisions_are base more n e
+decisions_are (IsMoved move ∷ base) more n e = absurd (cc)
 decisions_are (Replied answer ∷ base) more n e = decisions_are base more n e
 decisions_are (Stored host fid spans length ∷ base) more n e = decisions_are base more n e
 
@@ -307,7 +308,7 @@ module _ (start : Tree) (server : ServerId) (steps : List Step) (past : List Doi
     uses = all_uses server kept mid.state s before keeps end said.way few;
     others = all_others server kept mid.state s before keeps end said.way few;
     enters = all_enters server kept mid.state s before keeps end said.way few;
-    claims = λ k n claim took never live taken. none_ripe now x2.server x2.recovering stands2.recovery none k n claim
+    claims = λ k n claim took never live taken. none_ripe now x2.server x2.recovering stands2.slots stands2.recovery none k n claim
         took
         never live (subst (λ (v : ServerId). HasTakenGives v now k claim) (sym server2) taken);
   })
@@ -515,7 +516,7 @@ module _ (start : Tree) (server : ServerId) (steps : List Step) (past : List Doi
       writes = held.writes;
       admits = g1.admits;
       sends = tokens_send;
-      reserves = reserves_may server (after_sending s past);
+      reserves = reserves_may server (after_shipping s past);
     };
     no_host = record {
       causes = (h.plain.evict, h.plain.end);

@@ -257,7 +257,7 @@ module _ (tree : Tree) (past : List Doing) (x : Exporter) (z : IsAt past tree x)
       (its.home unmoved ∙ ap (λ (v : ServerId). v.0) of.own)
 
   here : Here server past g.fid.fileset m.moves
-  here = here_to server past g.fid.fileset m.moves unmoved is_home_here
+  here = here_to server past g.fid.fileset m.moves z.tables.slots unmoved is_home_here
 
   some : 0 < g.number
   some = let p = its.number in omega (arith, p)
@@ -414,6 +414,7 @@ module _ (tree : Tree) (past : List Doing) (x : Exporter) (z : IsAt past tree x)
   hosts_same = record {
     calm = record {
       begin = λ w. let q = w.1 in cc;
+      still = λ w. let q = w.1 in cc;
       away = λ j w. absurd (elim w [
         | inl f ↦ (let q = its_body j f.0 f.1 Down f.2 in cc)
         | inr f ↦ (let q = its_body j (epoch past) f.0.0 Bye f.0.1 in cc)
@@ -484,7 +485,7 @@ module _ (tree : Tree) (past : List Doing) (x : Exporter) (z : IsAt past tree x)
   gone_word = record {
     blank = gone_blank (number_of g);
     gone = λ n e. (let q = its_number (number_of g) n e in (
-      here_to server (took ∷ past) n.fileset 0 refl
+      here_to server (took ∷ past) n.fileset 0 z.tables.slots refl
           (subst (λ (a : AppliedGive). is_of server a.fileset ≡ true) q is_home_here),
       subst (IsApplied server (took ∷ past) h) q applied_now,
     ));
@@ -601,7 +602,7 @@ module _ (tree : Tree) (past : List Doing) (x : Exporter) (z : IsAt past tree x)
     module _ (moved : m.moves ≡ 0 → ⊥) where
       still_away : IsStill x.tables.server x.tables.stamp past took_away
       still_away = subst (λ (b : Body). IsStill x.tables.server x.tables.stamp past (Took m.host m.epoch m.moves b))
-          (sym is) (give_still x.tables.server past m.host m.epoch m.moves (inr (inr moved)) g x.tables.stamp)
+          (sym is) (give_still x.tables.server past z.tables.slots m.host m.epoch m.moves (inr (inr moved)) g x.tables.stamp)
 
       onset_away : IsOnset x.tables.server tree past m [] x.tables st
       onset_away = record {
@@ -633,7 +634,7 @@ module _ (tree : Tree) (past : List Doing) (x : Exporter) (z : IsAt past tree x)
         none_here : (j : HostId) (n : ℕ) (d : Give) → TakenNow past s j n (GiveBack d)
             → Here x.tables.server past d.fid.fileset n → ⊥
         none_here j n d q there = moved ((taken_m past m s e j n (GiveBack d) q).2
-            ∙ (here_from x.tables.server past d.fid.fileset n there).0)
+            ∙ (here_from x.tables.server past d.fid.fileset n z.tables.slots there).0)
 
         away_says : SaysAtOnce x.tables.server past s []
         away_says = record {

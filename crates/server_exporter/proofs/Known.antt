@@ -34,6 +34,7 @@ use Rattle.server_tables.proofs.Settling.{any_in, in_any}
 use Rattle.server_decides.specs.Taking.{is_decided_here}
 use Rattle.message_types.specs.declared.telling.Done.{Done as DoneOf}
 use Rattle.run_rules.specs.ServerMay.{HasWritten, IsLast}
+use Rattle.server_tables.proofs.Still.{StayPut}
 use Rattle.server_tables.specs.Answers.{again_of, answer_again}
 
 -- # Whether one of its number waits
@@ -236,21 +237,21 @@ module _ (past : List Doing) (x : Tables) (z : Stands past x) (h : HostId) (c : 
 
 -- # Whether it is decided here, and meant so
 
-pub decided_is : (past : List Doing) (x : Tables) (c : ChangeOf) → is_decided_here x c ≡ true
+pub decided_is : (past : List Doing) (x : Tables) (c : ChangeOf) → StayPut x.server past → is_decided_here x c ≡ true
     → IsDecidedHere x.server past c.fileset 0
-decided_is past x c e = elim (or_either (c.fileset.0 == 0) (is_of x.server c.fileset) e) [
+decided_is past x c put e = elim (or_either (c.fileset.0 == 0) (is_of x.server c.fileset) e) [
   | inl q ↦ inl (eqb-true c.fileset.0 0 q, refl)
-  | inr q ↦ inr (here_to x.server past c.fileset 0 refl q)
+  | inr q ↦ inr (here_to x.server past c.fileset 0 put refl q)
 ]
 
-pub is_decided : (past : List Doing) (x : Tables) (c : ChangeOf) (n : ℕ) → IsDecidedHere x.server past c.fileset n
-    → (is_decided_here x c ≡ true) × (n ≡ 0)
-is_decided past x c n (inl q) = (
+pub is_decided : (past : List Doing) (x : Tables) (c : ChangeOf) (n : ℕ) → StayPut x.server past
+    → IsDecidedHere x.server past c.fileset n → (is_decided_here x c ≡ true) × (n ≡ 0)
+is_decided past x c n put (inl q) = (
   or_left (c.fileset.0 == 0) (is_of x.server c.fileset) (eq-eqb c.fileset.0 0 q.0),
   q.1,
 )
-is_decided past x c n (inr q) =
-    let p = here_from x.server past c.fileset n q in
+is_decided past x c n put (inr q) =
+    let p = here_from x.server past c.fileset n put q in
     (or_right (c.fileset.0 == 0) (is_of x.server c.fileset) p.1, p.0)
 
 not_true : (b : Bool) → not b ≡ true → b ≡ false

@@ -51,6 +51,8 @@ use Rattle.server_decides.specs.Revoking.{revoking, ids_beside, is_beside, not_b
 use Rattle.server_exporter.proofs.Resting.{IsEven, claims_wait, even_still, quiet_even, rested_even}
 use Rattle.server_exporter.specs.Machines.{AreTold}
 use Rattle.message_types.specs.declared.giving.Reclaimed.{Reclaimed as ReclaimedOf}
+use Rattle.server_tables.proofs.Still.{StayPut}
+use Rattle.server_tables.proofs.Judged.{here_to}
 use Rattle.server_exporter.proofs.Tolds.{told_next}
 
 -- what is carried from doing to doing
@@ -170,11 +172,9 @@ so_all past tree x (r ∷ rs) may z =
 abbrev pub ask_of : Asking → Ask
 ask_of a = (a.host, 0, a.revoke)
 
-pub is_here : (server : ServerId) (past : List Doing) (fileset : FilesetId) → is_of server fileset ≡ true
-    → Here server past fileset 0
-unfolding home
-is_here server past fileset e = let q = eqb-true (fileset.0 / 65536) server.0 e in
-    λ i. record { server = record { 0 = q i }; moves = 0 }
+pub is_here : (server : ServerId) (past : List Doing) (fileset : FilesetId) → StayPut server past
+    → is_of server fileset ≡ true → Here server past fileset 0
+is_here server past fileset put e = here_to server past fileset 0 put refl e
 
 same_fids : (a b : Fid) → same_fid a b ≡ true → a ≡ b
 same_fids a b e =
@@ -251,7 +251,7 @@ module _ (y : Tables) (t : Token) (ts : List Token) (o : AreOwed y.server y.toke
   pub again_one : (past : List Doing) → Stands past y → MayAgain y.server past y.tokens.grants y.stamp r.0 r.1 r.2
   again_one past s = record {
     name = record {
-      here = is_here y.server past t.fid.fileset (o.homes t (inl refl));
+      here = is_here y.server past t.fid.fileset s.slots (o.homes t (inl refl));
       stamp_is = refl;
       reclaimed = s.stamps.revoked_live t (s.stamps.revoked t (o.there t (inl refl)) (o.marked t (inl refl)));
       each = λ i m. let q = its_token t (t ∷ ts) i m in (q.0, o.there q.0 q.1, q.2, q.3, q.4);

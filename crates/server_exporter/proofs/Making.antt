@@ -44,7 +44,7 @@ use Rattle.server_decides.specs.Writing.{done_of, written_made, written_of}
 pub change_home : (past : List Doing) (x : Tables) → Stands past x → (w : Wanted) → IsQueued past w → (c : ChangeOf)
     → w.request ≡ Changes c → w.moves ≡ 0
 change_home past x z w waits c is =
-    decided_home x.server past c.fileset w.moves (subst (IsAskedHere x.server past w.moves) is (z.wants.here w waits)).0
+    decided_home x.server past c.fileset w.moves z.slots (subst (IsAskedHere x.server past w.moves) is (z.wants.here w waits)).0
 
 -- the want at a place is a Change's, and is written down with this reply
 module _ (cause : Cause) (past : List Doing) (x : Tables) (d : Draft)

@@ -51,6 +51,7 @@ use Rattle.server_exporter.proofs.Onsets.{HasBegun, IsPlain, SaysAtOnce, SaysTo}
 use Rattle.server_exporter.proofs.Phases.{AreFresh, StaysGranting, all_held, all_spoken, early_allowed, fresh_all}
 use Rattle.server_exporter.proofs.Phases.{granting_of, grants_spoken, grants_stay, live_is, reclaimed_was, said_same}
 use Rattle.server_exporter.proofs.Sent.{AreAllowed}
+use Rattle.server_exporter.proofs.Phases.{moves_none_by}
 use Rattle.server_exporter.proofs.Words.{IsSpoken}
 
 -- what the cause of a step owes
@@ -190,7 +191,7 @@ module _ (server : ServerId) (cause : Cause) (tree : Tree) (past : List Doing) (
           let same = said_same server cause tree past h.base m held in
           let its = held.deciding.stands.recovery.claim k n claim
           (subst (λ (l : List Doing). TookNow l k n (Reclaim claim)) (sym same)
-          (((said_heard server cause past m.draft).took k n (Reclaim claim)).0 took))
+          (((said_heard server cause past m.draft (moves_none_by server cause tree past h.base m held)).took k n (Reclaim claim)).0 took))
           (λ r. h.never k n claim took never (reclaimed_was server cause tree past h.base m held k r))
           (subst (λ (l : List Doing). IsLive l k) (sym same) (live_is server cause tree past h.base m held k live)) in
           claim_counts server cause past k claim taken (made m.tables m.draft) g admits g0 held.deciding.server_is its

@@ -2,6 +2,7 @@
 use Rattle.std.proofs.Common.{◌≡◌, ◌+◌, ◌++◌, ℕ, Bool, true, false, List, [], ◌∷◌, Option, None, Some}
 use Rattle.std.proofs.Common.{if◌then◌else◌, inl, inr, refl, sym, ◌∙◌, ap, subst, eqb-true, eq-eqb}
 use Rattle.std.proofs.lemmas.Bool.{false≢true}
+use Rattle.std.specs.List.{list_any}
 use Rattle.std.specs.Prelude.{remove}
 use Rattle.base_types.specs.declared.ids.HostId.{HostId}
 use Rattle.base_types.specs.declared.ids.ServerId.{ServerId}
@@ -65,6 +66,8 @@ use Rattle.server_exporter.proofs.Making.{change_home}
 use Rattle.server_exporter.proofs.Onsets.{HasBegun}
 use Rattle.server_exporter.proofs.SendsAll.{sends_keep}
 use Rattle.server_exporter.proofs.Sent.{AreAllowed}
+use Rattle.run_tokens.specs.Unmoved.{is_move}
+use Rattle.server_exporter.proofs.Decisions.{moves_none}
 use Rattle.server_exporter.proofs.Words.{IsSaid, IsSpoken, admits_spoken, decides_spoken, sends_said}
 
 -- # Decisions
@@ -273,26 +276,32 @@ module _ (server : ServerId) (cause : Cause) (tree : Tree) (past : List Doing) (
   admitted_same = ap (λ (l : List Admission). appended (admitting l) (decided_by server cause tree past b.draft))
       (sym h.deciding.admitted)
 
+  pub moves_none_by : list_any is_move b.draft.applied ≡ false
+  moves_none_by =
+      ap (list_any is_move) h.deciding.applied
+      ∙ moves_none server cause tree past base h.more h.deciding.none h.deciding.all
+
   pub reclaimed_was : (k : HostId) → HasReclaimed (said_by server cause tree past b.draft) k
       → HasReclaimed (after_cause cause past) k
-  reclaimed_was k r = applied_was server b.draft.applied (after_cause cause past) k
+  reclaimed_was k r = applied_was server b.draft.applied moves_none_by (after_cause cause past) k
       (sent_was server b.draft.sent (decided_by server cause tree past b.draft) k r)
 
   reclaimed_is : (k : HostId) → HasReclaimed (after_cause cause past) k
       → HasReclaimed (said_by server cause tree past b.draft) k
   reclaimed_is k r = sent_is server b.draft.sent (decided_by server cause tree past b.draft) k
-      (applied_is server b.draft.applied (after_cause cause past) k r)
+      (applied_is server b.draft.applied moves_none_by (after_cause cause past) k r)
 
   pub live_is : (k : HostId) → IsLive (after_cause cause past) k → IsLive (said_in cause past b.draft) k
   live_is k = (live_both server (after_cause cause past) (said_in cause past b.draft)
-      (said_heard server cause past b.draft) k).0
+      (said_heard server cause past b.draft moves_none_by) k).0
 
   live_was : (k : HostId) → IsLive (said_in cause past b.draft) k → IsLive (after_cause cause past) k
   live_was k = (live_both server (after_cause cause past) (said_in cause past b.draft)
-      (said_heard server cause past b.draft) k).1
+      (said_heard server cause past b.draft moves_none_by) k).1
 
   pub granting_of : IsGranting cause past b.tables b.draft
   granting_of = record {
+    none = moves_none_by;
     stands = subst (λ (l : List Doing). Stands l b.tables) said_same h.deciding.stands;
     answered = subst (λ (l : List Doing). AnsweredStand l b.tables.recovering.answers) said_same h.answered;
     waits = λ c i. (

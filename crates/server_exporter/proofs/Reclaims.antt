@@ -71,6 +71,7 @@ module _ (tree : Tree) (past : List Doing) (x : Exporter) (z : IsAt past tree x)
   claim_hosts = record {
     calm = record {
       begin = λ w. let q = w.1 in cc;
+      still = λ w. let q = w.1 in cc;
       away = λ h g. absurd (elim g [
         | inl f ↦ (let q = its_body h f.0 f.1 Down f.2 in cc)
         | inr f ↦ (let q = its_body h (epoch past) f.0.0 Bye f.0.1 in cc)

@@ -333,6 +333,7 @@ module _ (past : List Doing) (x : Tables) (z : Stands past x) (h : HostId) (c : 
   calm : HostsCalm past told
   calm = record {
     begin = begin;
+    still = λ m. let q = m.1 in cc;
     away = λ i v. absurd (elim v [ inl f ↦ (let q = f.2 in cc) | inr f ↦ (let q = f.0.1 in cc) ]);
     admits = λ i ts q. cc;
   }
@@ -353,6 +354,7 @@ module _ (past : List Doing) (x : Tables) (z : Stands past x) (h : HostId) (c : 
 
   pub stands_again : Stands (told ∷ past) x
   stands_again = record {
+    slots = z.slots;
     hosts = hosts_still past told word_hosts z.hosts;
     tokens = tokens_again;
     stamps = stamps_again;

@@ -182,7 +182,7 @@ module _ (tree : Tree) (past : List Doing) (x : Exporter) (z : IsAt past tree x)
   -- and no claim granted
   none_admitted : (b : Made) → AdmitsOne (made t a.draft) b → ⊥
   none_admitted b one =
-      let f = ripe_is begun t.server t.recovering s_b.recovery one.next.claimed one.next.ripe in
+      let f = ripe_is begun t.server t.recovering s_b.slots s_b.recovery one.next.claimed one.next.ripe in
       let q = s_b.recovery.claimed one.next.claimed f.0 in
       let v = (stays_onset tree past x z m st k served
       (asked_still tree past x z m st k served (Changes c) is live current)).waits one.next.claimed f.0 in
@@ -271,6 +271,7 @@ module _ (tree : Tree) (past : List Doing) (x : Exporter) (z : IsAt past tree x)
   word_hosts = record {
     calm = record {
       begin = λ v. let q = v.1 in cc;
+      still = λ v. let q = v.1 in cc;
       away = λ h v. absurd (elim v [ inl f ↦ (let q = f.2 in cc) | inr f ↦ (let q = f.0.1 in cc) ]);
       admits = λ h ts q. cc;
     };

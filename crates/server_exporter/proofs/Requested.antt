@@ -282,6 +282,7 @@ module _ (tree : Tree) (past : List Doing) (x : Exporter) (z : IsAt past tree x)
         let s = begun_stands in
         let h = made_hosts begun w in
         record {
+          slots = s.slots;
           hosts = hosts_still begun made h s.hosts;
           tokens = subst (TokensStand wanted t.server) (sym (same_grants t p0))
               (tokens_still begun made h.calm t.server (made_tokens begun w t.server) s.tokens);

@@ -58,6 +58,7 @@ use Rattle.server_decides.specs.Running.{making}
 use Rattle.server_decides.specs.Serving.{IsServed}
 use Rattle.server_exporter.specs.Machines.{IsAt, Keeps}
 use Rattle.server_exporter.specs.declared.exporter.Exporter.{Exporter}
+use Rattle.server_tables.proofs.Still.{StayPut, decided_home}
 use Rattle.server_exporter.proofs.Onsets.{HasBegun, SaysAtOnce}
 
 -- # A message by which nothing is asked
@@ -283,7 +284,7 @@ module _ (server : ServerId) (stamp : ℕ) (past : List Doing) (h : HostId) (e n
   pub unheard_still : IsStill server stamp past a
   unheard_still = record {
     hosts = record {
-      calm = record { begin = λ w. let p = w.1 in cc; away = λ k g. absurd (goes_none k g); admits = λ k ts p. cc };
+      calm = record { begin = λ w. let p = w.1 in cc; still = λ w. let p = w.1 in cc; away = λ k g. absurd (goes_none k g); admits = λ k ts p. cc };
       hello = λ k f l d. quiet.hello (same_took h k e f.0 n f.1 b Hello f.2).3;
       down = λ k f. absurd (quiet.down (same_took h k e f.0 n f.1 b Down f.2).3);
       sends = λ k f i d p. absurd (cc);
@@ -333,14 +334,14 @@ module _ (server : ServerId) (past : List Doing) (h : HostId) (e n : ℕ) (g : N
       (λ k f w p. let q = p.2.0 in cc) (λ c q. cc)
 
 -- A message that isn't heard: its host isn't live, it is of another epoch, or of a later stay of its fileset.
-module _ (server : ServerId) (past : List Doing) (h : HostId) (e n : ℕ)
+module _ (server : ServerId) (past : List Doing) (put : StayPut server past) (h : HostId) (e n : ℕ)
     (none : (IsLive past h → ⊥) ⊎ ((e ≡ epoch past → ⊥) ⊎ (n ≡ 0 → ⊥))) where
   pub not_taken : (b : Body) (k : HostId) (f : FilesetId) (w : Body) → TakesOf server past (Took h e n b) k f w → ⊥
   not_taken b k f w p =
       let q = same_took h k e (epoch past) n p.0 b w p.2.0 in
       elim none [
         | inl o ↦ o (subst (IsLive past) (sym q.0) p.2.1)
-        | inr o ↦ elim o [ inl r ↦ r q.1 | inr r ↦ r (q.2 ∙ sym (ap (λ (s : Stay). s.moves) p.1)) ]
+        | inr o ↦ elim o [ inl r ↦ r q.1 | inr r ↦ r (q.2 ∙ decided_home server past f p.0 put (inr p.1)) ]
       ]
 
   pub unheard_names : (b : Body) (k : HostId) (i : TokenId) → GivesUp server past (Took h e n b) k i → ⊥
@@ -385,6 +386,7 @@ module _ (tree : Tree) (past : List Doing) (x : Exporter) (z : IsAt past tree x)
   plain_hosts b p = record {
     calm = record {
       begin = λ w. let q = w.1 in cc;
+      still = λ w. let q = w.1 in cc;
       away = λ k w. absurd (elim w [
         | inl f ↦ p.down (its_body b Down (epoch past) n k f.0 f.1 f.2)
         | inr f ↦ p.bye (its_body b Bye (epoch past) n k (epoch past) f.0.0 f.0.1)
@@ -479,7 +481,7 @@ module _ (tree : Tree) (past : List Doing) (x : Exporter) (z : IsAt past tree x)
 
   -- its fileset isn't here
   not_here : (f : FilesetId) → is_of x.tables.server f ≡ false → Here x.tables.server past f m.moves → ⊥
-  not_here f e here = false≢true (sym e ∙ (here_from x.tables.server past f m.moves here).1)
+  not_here f e here = false≢true (sym e ∙ (here_from x.tables.server past f m.moves z.tables.slots here).1)
 
   module _ (g : Named) where
     pub returned_opens : m.body ≡ Returned g → m.moves ≡ 0 → IsServed (returned_tables x.tables m.host g) st
@@ -492,7 +494,7 @@ module _ (tree : Tree) (past : List Doing) (x : Exporter) (z : IsAt past tree x)
             (making (if b then freed x.tables m.host g.ids else x.tables) no_draft st)
         by true e served = silent_begins tree past x z m (freed x.tables m.host g.ids)
             (returned_silent tree past x z m.host m.moves g live
-            (here_to x.tables.server past g.fid.fileset m.moves unmoved e) one m
+            (here_to x.tables.server past g.fid.fileset m.moves z.tables.slots unmoved e) one m
             (λ i. record m { epoch = current i; body = is i }))
             (subst IsPlainBody (sym is) (returned_plain g)) (λ l. current) st k served
         by false e served = silent_still (Returned g) is (returned_plain g)
@@ -503,7 +505,7 @@ module _ (tree : Tree) (past : List Doing) (x : Exporter) (z : IsAt past tree x)
         → HasBegun x.tables.server (Came m) tree past (making x.tables no_draft st)
     returned_away is moved served = silent_still (Returned g) is (returned_plain g)
         (returned_still x.tables.server past m.host m.epoch m.moves g
-        (inr (inr (λ here. moved (here_from x.tables.server past g.fid.fileset m.moves here).0))) x.tables.stamp)
+        (inr (inr (λ here. moved (here_from x.tables.server past g.fid.fileset m.moves z.tables.slots here).0))) x.tables.stamp)
         served
 
     pub kept_opens : IsFor x.tables.server x.tables.roster m → m.body ≡ Kept g → m.moves ≡ 0
@@ -516,11 +518,11 @@ module _ (tree : Tree) (past : List Doing) (x : Exporter) (z : IsAt past tree x)
         (its.home unmoved ∙ ap (λ (v : ServerId). v.0) of.own) in
         silent_begins tree past x z m (kept_tables x.tables m.host g)
         (kept_silent tree past x z m.host m.moves g live
-        (here_to x.tables.server past g.fid.fileset m.moves unmoved e) one m
+        (here_to x.tables.server past g.fid.fileset m.moves z.tables.slots unmoved e) one m
         (λ i. record m { epoch = current i; body = is i }))
         (subst IsPlainBody (sym is) (kept_plain g)) (λ l. current) st k served
 
     pub kept_away : m.body ≡ Kept g → (m.moves ≡ 0 → ⊥) → IsServed x.tables st
         → HasBegun x.tables.server (Came m) tree past (making x.tables no_draft st)
     kept_away is moved served = silent_still (Kept g) is (kept_plain g)
-        (kept_still x.tables.server past m.host m.epoch m.moves (inr (inr moved)) g x.tables.stamp) served
+        (kept_still x.tables.server past z.tables.slots m.host m.epoch m.moves (inr (inr moved)) g x.tables.stamp) served

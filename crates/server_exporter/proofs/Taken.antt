@@ -294,16 +294,16 @@ module _ (tree : Tree) (past : List Doing) (x : Exporter) (z : IsAt past tree x)
           → IsMadeOf t no_draft b.tables b.draft (if i && not w
           then want_made t no_draft (wanted_for m.host (Asks f) f.needs) else made t no_draft) → Begins
       fetch_here home true e false g s q = makes_want (Asks f) is f.needs home
-          (here_to t.server past f.fid.fileset 0 refl e) (λ o. o) g refl never_again
+          (here_to t.server past f.fid.fileset 0 z.tables.slots refl e) (λ o. o) g refl never_again
           (record { tables = q.tables; draft = q.draft }, s)
       fetch_here home true e true g s q = no_want (Asks f) is (q, s) never_again
           (λ here old none. one_waits begun t (stands_r (Asks f) is) m.host (Asks f) g none)
       fetch_here home false e w g s q = no_want (Asks f) is (q, s) never_again
-          (λ here old none. false≢true (sym e ∙ (here_from t.server past f.fid.fileset m.moves here).1))
+          (λ here old none. false≢true (sym e ∙ (here_from t.server past f.fid.fileset m.moves z.tables.slots here).1))
 
       fetch_away : (m.moves ≡ 0 → ⊥) → IsMade t no_draft st → Begins
       fetch_away moved q = no_want (Asks f) is q never_again
-          (λ here old none. moved (here_from t.server past f.fid.fileset m.moves here).0)
+          (λ here old none. moved (here_from t.server past f.fid.fileset m.moves z.tables.slots here).0)
 
     -- a Change
     module _ (c : ChangeOf) (is : m.body ≡ Change c) where
@@ -339,7 +339,7 @@ module _ (tree : Tree) (past : List Doing) (x : Exporter) (z : IsAt past tree x)
 
       not_here : is_decided_here t c ≡ false → IsRepeated t.server past m (Changes c) is current []
       not_here e o d same here fs n last done = absurd (false≢true (sym e
-          ∙ (is_decided past t c m.moves (subst (λ (v : ChangeOf). IsDecidedHere t.server past v.fileset m.moves)
+          ∙ (is_decided past t c m.moves z.tables.slots (subst (λ (v : ChangeOf). IsDecidedHere t.server past v.fileset m.moves)
           (sym (its_own o same)) here)).0))
 
       -- it is old: it is answered once more
@@ -389,10 +389,10 @@ module _ (tree : Tree) (past : List Doing) (x : Exporter) (z : IsAt past tree x)
             then made t (repeated t no_draft m.host (answer_again t m.host c))
             else (if (h && not o) && (v && not w) then want_made t no_draft (wanted_for m.host (Changes c) needs)
             else made t no_draft)) → Begins
-        change_here home true e true f v g w j s q = once_more (decided_is past t c e) f (answer_again t m.host c) refl
+        change_here home true e true f v g w j s q = once_more (decided_is past t c z.tables.slots e) f (answer_again t m.host c) refl
             (q, s)
         change_here home true e false f true g false j s q =
-            makes_want (Changes c) is needs home (decided_is past t c e, meant_is c g)
+            makes_want (Changes c) is needs home (decided_is past t c z.tables.slots e, meant_is c g)
             (λ o. false≢true (sym f ∙ old_all begun t (stands_r (Changes c) is) m.host c z.changes o)) j
             (needs_are (meant_is c g)) (not_repeated f) (record { tables = q.tables; draft = q.draft }, s)
         change_here home true e false f true g true j s q = no_want (Changes c) is (q, s) (not_repeated f)
@@ -400,11 +400,11 @@ module _ (tree : Tree) (past : List Doing) (x : Exporter) (z : IsAt past tree x)
         change_here home true e false f false g w j s q = no_want (Changes c) is (q, s) (not_repeated f)
             (λ here old none. false≢true (sym g ∙ is_meant c here.1))
         change_here home false e o f v g w j s q = no_want (Changes c) is (q, s) (not_here e)
-            (λ here old none. false≢true (sym e ∙ (is_decided past t c m.moves here.0).0))
+            (λ here old none. false≢true (sym e ∙ (is_decided past t c m.moves z.tables.slots here.0).0))
 
       change_away : (m.moves ≡ 0 → ⊥) → IsMade t no_draft st → Begins
       change_away moved q = no_want (Changes c) is q (λ o d same here fs n last done. absurd (moved
-          (is_decided past t o m.moves here).1)) (λ here old none. moved (is_decided past t c m.moves here.0).1)
+          (is_decided past t o m.moves z.tables.slots here).1)) (λ here old none. moved (is_decided past t c m.moves z.tables.slots here.0).1)
 
   -- # Whichever it is
 

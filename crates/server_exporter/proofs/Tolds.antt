@@ -6,6 +6,7 @@ use Rattle.message_types.specs.declared.giving.Reclaimed.{Reclaimed as Reclaimed
 use Rattle.message_types.specs.declared.message.Body.TheVariants.{Reclaimed, Done}
 use Rattle.message_types.specs.declared.message.Message.{Message}
 use Rattle.run_rules.specs.Doings.{Doing, IsNewEpoch, SentTo, after_cause, admitting, deciding, epoch, sending, InEpoch}
+use Rattle.run_rules.specs.Doings.Doing.{Gets}
 use Rattle.run_rules.specs.Doings.Doing.{Admits, Flushes, MakesWant, Sent, Took, WritesDown}
 use Rattle.run_rules.specs.Past.{EachInTurn, In, appended}
 use Rattle.run_rules.specs.ServerTokens.{ServerTokens}
@@ -150,5 +151,6 @@ module _ (server : ServerId) where
   told_caused (Line line) p calm z = z
   told_caused Lapse p calm z = z
   told_caused Evict p calm z = z
-  told_caused (Freight freight) p calm z = z
+  told_caused (Freight freight) p calm z = told_next p (Gets freight.server freight.moves freight.body) (λ b. let q = b.1 in cc) (λ h e n r q. absurd (cc))
+      (λ w c n d q. absurd (cc)) z
   told_caused End p calm z = z

@@ -326,7 +326,7 @@ module _ (cause : Cause) (past : List Doing) (first : Draft) where
           let same : need.fid ≡ f.fid = of_each (λ (n : Need). n.fid ≡ f.fid) f.needs its.file need
           (subst (In need) (came.needs f is) i) in
           ap (λ (y : Fid). is_of x.server y.fileset) same
-          ∙ (here_from x.server now f.fid.fileset p.wanted.moves
+          ∙ (here_from x.server now f.fid.fileset p.wanted.moves g.way.stands.slots
           (subst (IsAskedHere x.server now p.wanted.moves) is (g.way.stands.wants.here p.wanted waits))).1
 
       -- the tokens that it is granted

@@ -94,7 +94,7 @@ module _ (past : List Doing) (x : Tables) (z : Stands past x) (a : Admission) (n
   c = next.claimed
 
   ripe : In c x.recovering.claims × HasTakenGives x.server past c.host c.claim
-  ripe = ripe_is past x.server x.recovering z.recovery c next.ripe
+  ripe = ripe_is past x.server x.recovering z.slots z.recovery c next.ripe
 
   -- it was taken, and its give-backs all came
   took : (n : ℕ) × TookNow past c.host n (Reclaim c.claim)
@@ -108,7 +108,7 @@ module _ (past : List Doing) (x : Tables) (z : Stands past x) (a : Admission) (n
   admission_may =
       subst (λ (h : HostId). MayAdmit x.server past h a.tokens) (sym next.host)
       (subst (MayAdmit x.server past c.host) (sym next.tokens)
-      (may_admit past x.server x.recovering z.recovery c.host never live x.tokens.grants z.tokens c.claim
+      (may_admit past x.server x.recovering z.slots z.recovery c.host never live x.tokens.grants z.tokens c.claim
       (to_admit x c) (picked_are (is_claimed x c) c.claim.tokens) took.0 took.1 ripe.1 its_host))
 
   -- its tokens are of earlier epochs
@@ -149,10 +149,10 @@ answer_word past x z h never live answers are a i =
       blank = record { grant = λ g e. cc; done = λ g e. cc; revoke = λ g e. cc };
       gone = λ g e. absurd (cc);
       reclaimed = λ r g e j.
-          was_applied past x.server x.recovering z.recovery h never live.1 f.0.claim g
+          was_applied past x.server x.recovering z.slots z.recovery h never live.1 f.0.claim g
           (subst (λ (b : ReclaimedOf). In g b.applied) (sym (same_answer (answer_of x.recovering h f.0.claim) r e)) j);
       left_out = λ r k e j.
-          left_so past x.server x.recovering z.recovery h never live.1 f.0.claim k
+          left_so past x.server x.recovering z.slots z.recovery h never live.1 f.0.claim k
           (subst (λ (b : ReclaimedOf). In k b.left_out) (sym (same_answer (answer_of x.recovering h f.0.claim) r e)) j);
     })
 
@@ -165,8 +165,8 @@ answers_say past x z h never live answers are c i own taken = (
   answer_of x.recovering h c.claim,
   are.all c i (and_from (c.host.0 == h.0) (has_all x.recovering.taken x.server h c.claim)
       (eq-eqb c.host.0 h.0 (ap (λ (k : HostId). k.0) own))
-      (taken_all past x.server x.recovering z.recovery h never live.1 c.claim taken)),
-  answers_claim past x.server x.recovering z.recovery h never live.1 c.claim,
+      (taken_all past x.server x.recovering z.slots z.recovery h never live.1 c.claim taken)),
+  answers_claim past x.server x.recovering z.slots z.recovery h never live.1 c.claim,
 )
 
 -- a claim that is granted is granted as the rules say

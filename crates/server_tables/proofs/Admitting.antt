@@ -39,6 +39,7 @@ use Rattle.server_tables.specs.Standing.{ChangesStand, GivesStand, HostsStand, I
 use Rattle.server_tables.specs.Standing.{RecoveryStands, Stands}
 use Rattle.server_tables.specs.Standing.{StampsStand, TokensStand, WantsStand, WroteThis, tokens_of}
 use Rattle.server_tables.proofs.Greeting.{in_end, in_front, in_parts}
+use Rattle.server_tables.proofs.Still.{asked_by}
 use Rattle.server_tables.proofs.Queueing.{one_is}
 
 -- the same tokens and notes, and these tokens beside them, neither pinned nor asked back
@@ -267,7 +268,7 @@ module _ (past : List Doing) (server : ServerId) (h : HostId) (tokens : List Tok
     order_all = λ p q m n t. s.order_all p q m n (elim t.0 [ inl x ↦ absurd (let y = x.1 in cc) | inr x ↦ x ]);
     live = λ w u. live_on w.host (s.live w (waits_back w u));
     took = λ w u. inr (s.took w (waits_back w u), begin);
-    here = λ w u. s.here w (waits_back w u);
+    here = λ w u. asked_by server past (a ∷ past) (λ f. refl) w.moves w.request (s.here w (waits_back w u));
     once = λ w v u x. s.once w v (waits_back w u) (waits_back v x);
     few = s.few;
     below = s.below;
@@ -362,6 +363,7 @@ pub stands_admitted : (past : List Doing) (x : Tables) (h : HostId) (tokens : Li
       recovering = new;
     })
 stands_admitted past x h tokens first live own earlier admitted w queue q new f s = record {
+  slots = s.slots;
   hosts = hosts_admitted past x.server h tokens first live own earlier x.hosts s.hosts;
   tokens = tokens_admitted past x.server h tokens first live own earlier x.tokens.grants admitted s.tokens w;
   stamps = stamps_admitted past x.server h tokens first live own earlier x.tokens.grants admitted s.tokens w s.stamps;

@@ -15,7 +15,7 @@ use Rattle.run_rules.specs.Doings.{Doing, Enlists, GivenUp, GivesUp, GoesAway, G
 use Rattle.run_rules.specs.Doings.{HasReclaimed, HasUsedStamp, Hears, IsApplied, IsLive, IsNewEpoch, IsNewlyGranted}
 use Rattle.run_rules.specs.Doings.{Issued}
 use Rattle.run_rules.specs.Doings.{Listed, ListedNow, Pinned, Reserved, SentTo, StayStamp, TakesBye}
-use Rattle.run_rules.specs.Doings.{TakesFrom, TakesOf, TookNow, TookOf, WasWritten, epoch, epoch_after}
+use Rattle.run_rules.specs.Doings.{TakesFrom, TakesOf, TookNow, TookOf, WasWritten, epoch, epoch_after, slot_by, slot_of}
 use Rattle.run_rules.specs.Doings.Doing.{Admits, Flushes, MakesWant, Reserves, Sent, Took, WritesDown}
 use Rattle.run_rules.specs.Past.{In, appended}
 use Rattle.run_rules.specs.ServerMay.{HasRevoked}
@@ -23,6 +23,8 @@ use Rattle.run_rules.specs.Wants.{CannotBothWait, Decides, IsQueued, IsQueuedBef
 use Rattle.run_rules.specs.declared.applied.Wanted.{Wanted}
 use Rattle.run_rules.specs.declared.applied.Written.{Written}
 use Rattle.server_tables.specs.Standing.{WroteThis}
+use Rattle.run_tokens.specs.Unmoved.{MovesOne}
+use Rattle.run_tokens.proofs.Unmoved.{slot_on}
 use Rattle.server_tables.proofs.Still.{same_epoch}
 
 -- # Both hold, or neither does
@@ -62,6 +64,7 @@ swap_both {A} {B} {C} = (
 -- what it heard
 pub record SameHeard (server : ServerId) (p q : List Doing) : Type 0 where
   pub epoch_is : epoch p ≡ epoch q
+  pub slots : (f : FilesetId) → slot_of server p f ≡ slot_of server q f
   pub down : (h : HostId) → Both (HasGoneDown p h) (HasGoneDown q h)
   pub listed : (h : HostId) → Both (Listed p h) (Listed q h)
   pub away : (h : HostId) → Both (HasGoneAway p h) (HasGoneAway q h)
@@ -90,6 +93,7 @@ pub record SameWords (server : ServerId) (p q : List Doing) : Type 0 where
 pub heard_back : {server : ServerId} {p q : List Doing} → SameHeard server p q → SameHeard server q p
 heard_back s = record {
   epoch_is = sym s.epoch_is;
+  slots = λ f. sym (s.slots f);
   down = λ h. both_back (s.down h);
   listed = λ h. both_back (s.listed h);
   away = λ h. both_back (s.away h);
@@ -105,6 +109,7 @@ pub heard_then : {server : ServerId} {p q r : List Doing} → SameHeard server p
     → SameHeard server p r
 heard_then s z = record {
   epoch_is = s.epoch_is ∙ z.epoch_is;
+  slots = λ f. s.slots f ∙ z.slots f;
   down = λ h. both_then (s.down h) (z.down h);
   listed = λ h. both_then (s.listed h) (z.listed h);
   away = λ h. both_then (s.away h) (z.away h);
@@ -152,6 +157,7 @@ words_then s z = record {
 pub heard_same : (server : ServerId) (p : List Doing) → SameHeard server p p
 heard_same server p = record {
   epoch_is = refl;
+  slots = λ f. refl;
   down = λ h. both_same;
   listed = λ h. both_same;
   away = λ h. both_same;
@@ -194,8 +200,8 @@ module _ (server : ServerId) (p q : List Doing) (s : SameHeard server p q) where
 
     of_both : (h : HostId) (f : FilesetId) (b : Body) → Both (TakesOf server p a h f b) (TakesOf server q a h f b)
     of_both h f b = (
-      λ t. (t.0, t.1, (takes_both h t.0 b).0 t.2),
-      λ t. (t.0, t.1, (takes_both h t.0 b).1 t.2),
+      λ t. (t.0, sym (s.slots f) ∙ t.1, (takes_both h t.0 b).0 t.2),
+      λ t. (t.0, s.slots f ∙ t.1, (takes_both h t.0 b).1 t.2),
     )
 
     bye_both : (h : HostId) → Both (TakesBye p a h) (TakesBye q a h)
@@ -262,6 +268,7 @@ module _ (server : ServerId) (p q : List Doing) (s : SameHeard server p q) where
     pub heard_next : SameHeard server (a ∷ p) (a ∷ q)
     heard_next = record {
       epoch_is = ap (epoch_after a) s.epoch_is;
+      slots = λ f. ap (slot_by a f) (s.slots f);
       down = λ h. either_both both_same (s.down h);
       listed = listed_both;
       away = λ h. either_both (goes_both h) (s.away h);
@@ -378,10 +385,11 @@ words_under server p q (a ∷ more) s = words_under server (a ∷ p) (a ∷ q) m
 
 -- # A doing that takes nothing
 
--- it takes no message, begins no epoch, and keeps and lets go nothing
+-- it takes no message, begins no epoch, moves no fileset, and keeps and lets go nothing
 pub record IsInner (a : Doing) : Type 0 where
   pub took : (h : HostId) (e n : ℕ) (b : Body) → a ≡ Took h e n b → ⊥
   pub begins : IsNewEpoch a → ⊥
+  pub still : MovesOne a → ⊥
   pub flushes : a ≡ Flushes → ⊥
   pub reserves : (ts : List Token) → a ≡ Reserves ts → ⊥
 
@@ -389,6 +397,7 @@ pub sent_inner : (h : HostId) (e n : ℕ) (b : Body) → IsInner (Sent h e n b)
 sent_inner h e n b = record {
   took = λ k f m d p. cc;
   begins = λ x. let p = x.1 in cc;
+  still = λ x. let p = x.1 in cc;
   flushes = λ p. cc;
   reserves = λ ts p. cc;
 }
@@ -397,6 +406,7 @@ pub want_inner : (w : Wanted) → IsInner (MakesWant w)
 want_inner w = record {
   took = λ k f m d p. cc;
   begins = λ x. let p = x.1 in cc;
+  still = λ x. let p = x.1 in cc;
   flushes = λ p. cc;
   reserves = λ ts p. cc;
 }
@@ -405,6 +415,7 @@ pub write_inner : (w : Written) → IsInner (WritesDown w)
 write_inner w = record {
   took = λ k f m d p. cc;
   begins = λ x. let p = x.1 in cc;
+  still = λ x. let p = x.1 in cc;
   flushes = λ p. cc;
   reserves = λ ts p. cc;
 }
@@ -413,6 +424,7 @@ pub admit_inner : (h : HostId) (ts : List Token) → IsInner (Admits h ts)
 admit_inner h ts = record {
   took = λ k f m d p. cc;
   begins = λ x. let p = x.1 in cc;
+  still = λ x. let p = x.1 in cc;
   flushes = λ p. cc;
   reserves = λ us p. cc;
 }
@@ -452,6 +464,7 @@ module _ (server : ServerId) (p : List Doing) (a : Doing) (i : IsInner a) where
   pub heard_inner : SameHeard server (a ∷ p) p
   heard_inner = record {
     epoch_is = same_epoch a (epoch p) i.begins;
+    slots = λ f. slot_on a f (slot_of server p f) i.still;
     down = λ h. only_once (hears_none h Down);
     listed = listed_was;
     away = λ h. only_once (goes_none h);

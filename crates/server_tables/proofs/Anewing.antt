@@ -26,6 +26,7 @@ use Rattle.server_tables.proofs.Still.{claims_of, dones_of, gives_still, hosts_s
 use Rattle.server_tables.proofs.Still.{over_still, recovery_still, stamps_still, tokens_still}
 use Rattle.server_tables.proofs.Greeting.{in_end, in_front, in_parts}
 use Rattle.server_tables.proofs.Queueing.{made_answers, made_decides, made_hosts, made_tokens, map_end, one_is}
+use Rattle.server_tables.proofs.Still.{asked_by}
 use Rattle.server_tables.proofs.Queueing.{same_refl}
 
 -- `old` waits, and is made anew with these needs; `qs` are the wants without it
@@ -110,11 +111,11 @@ module _ (past : List Doing) (server : ServerId) (next : ℕ) (ps qs : List Pend
       ]),
       (made_hosts past new).calm.begin,
     );
-    here = λ u x. elim (anew_waits u x) [
+    here = λ u x. asked_by server past (MakesWant new ∷ past) (λ f. refl) u.moves u.request (elim (anew_waits u x) [
       | inl e ↦ subst (λ (y : Wanted). IsAskedHere server past y.moves y.request)
           (sym e) (s.here old waits)
       | inr k ↦ s.here u k.0
-    ];
+    ]);
     once = once;
     few = λ p m. elim (in_parts p qs (p0 ∷ []) m) [
       | inl k ↦ s.few p (of p k).0
@@ -235,6 +236,7 @@ stands_anew past x s old waits needs differs few qs left of all over gives_up =
     let a : Doing = MakesWant w in
     let h = made_hosts past w in
     record {
+      slots = s.slots;
       hosts = hosts_still past a h s.hosts;
       tokens = tokens_still past a h.calm x.server (made_tokens past w x.server) s.tokens;
       stamps = stamps_still past a h.calm x.server (made_tokens past w x.server) (λ f z t. absurd (quiet a f z

@@ -171,7 +171,7 @@ module _ (past : List Doing) (x : Tables) (z : Stands past x) (w : Wanted) (wait
           (let l = z.changes.answered o (wrote_were o t) in
           let q = (z.changes.last l.0 l.1).wrote_all o (wrote_were o t) (sym l.2) (sym l.3) in
           (q.0, sym (stays.all l.0 l.1 (l.2 ∙ h) (l.3 ∙ f)) ∙ q.1, q.2));
-      home = decided_home x.server past c.fileset w.moves
+      home = decided_home x.server past c.fileset w.moves z.slots
           (subst (IsAskedHere x.server past w.moves) is (z.wants.here w waits)).0;
       reply = λ o e. elim (below_or o.number c.number) [
         | inl k ↦ inl (omega (arith, k, number_is))
@@ -278,6 +278,7 @@ module _ (past : List Doing) (x : Tables) (z : Stands past x) (w : Wanted) (wait
             tokens = record x.tokens { queue = left };
           })
           stands_without = record {
+            slots = z.slots;
             hosts = hosts_still past told hosts_told z.hosts;
             tokens = tokens_still past told hosts_told.calm x.server still_tokens z.tokens;
             stamps = stamps_still past told hosts_told.calm x.server still_tokens told_stamp z.stamps;
@@ -306,6 +307,7 @@ module _ (past : List Doing) (x : Tables) (z : Stands past x) (w : Wanted) (wait
             tokens = record x.tokens { grants = with_grant x.tokens.grants want; queue = left };
           })
           stands_with = record {
+            slots = z.slots;
             hosts = hosts_still past told hosts_told z.hosts;
             tokens = tokens_sent past x.server x.tokens.grants want x.hosts.epoch w.moves (Done d) d.bring tokens_are
                 (inr (d, refl, refl)) one_bring (λ r q. cc) z.tokens live_w;

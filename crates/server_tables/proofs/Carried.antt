@@ -26,6 +26,7 @@ use Rattle.server_tables.specs.declared.tables.LastGive.{LastGive}
 use Rattle.server_tables.specs.declared.tables.Tables.{Tables}
 use Rattle.server_tables.specs.Standing.{AnsweredStand, ChangesStand, GivesStand, HostsStand, IsLastChange}
 use Rattle.server_tables.specs.Standing.{QueueStands, RecoveryStands, StampsStand, Stands, TokensStand, WantsStand}
+use Rattle.server_tables.proofs.Still.{asked_by}
 use Rattle.server_tables.proofs.Alike.{SameWords, live_both}
 
 module _ (server : ServerId) (p q : List Doing) (s : SameWords server p q) where
@@ -93,7 +94,8 @@ module _ (server : ServerId) (p q : List Doing) (s : SameWords server p q) where
     order_all = λ x y i j b. z.order_all x y i j ((s.before x.wanted y.wanted).1 b);
     live = λ w waits. live_to w.host (z.live w ((s.queued w).1 waits));
     took = λ w waits. (s.heard.took w.host w.moves (body_of w.request)).0 (z.took w ((s.queued w).1 waits));
-    here = λ w waits. z.here w ((s.queued w).1 waits);
+    here = λ w waits.
+        asked_by server p q (λ f. sym (s.heard.slots f)) w.moves w.request (z.here w ((s.queued w).1 waits));
     once = λ w v a b. z.once w v ((s.queued w).1 a) ((s.queued v).1 b);
     few = z.few;
     below = z.below;
@@ -223,6 +225,7 @@ module _ (server : ServerId) (p q : List Doing) (s : SameWords server p q) where
 
 pub stands_carried : (p q : List Doing) (x : Tables) → SameWords x.server p q → Stands p x → Stands q x
 stands_carried p q x s z = record {
+  slots = λ f. sym (s.heard.slots f) ∙ z.slots f;
   hosts = hosts_carried x.server p q s z.hosts;
   tokens = tokens_carried x.server p q s z.tokens;
   stamps = stamps_carried x.server p q s z.stamps;

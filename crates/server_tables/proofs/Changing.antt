@@ -57,6 +57,7 @@ use Rattle.server_tables.proofs.Quiet.{lines_may, no_host_may, reserves_may, the
 use Rattle.server_tables.proofs.Queueing.{made_answers, made_hosts, made_tokens, made_waits, not_waiting, same_refl}
 use Rattle.server_tables.proofs.Queueing.{same_sym, waits_on}
 use Rattle.server_tables.proofs.Asking.{IsAsked, IsTelling, answers_asked, asking, live_begun, makes_may, not_down}
+use Rattle.server_tables.proofs.Still.{asked_by}
 use Rattle.server_tables.proofs.Asking.{not_given, settled_begun, stands_begun, took_still, only_asked}
 
 same_fileset : (a b : FilesetId) → (a.0 == b.0) ≡ true → a ≡ b
@@ -169,6 +170,7 @@ module _ (past : List Doing) (x : Tables) (m : Message) (c : ChangeOf) (needs : 
   wrote_hosts as0 = record {
     calm = record {
       begin = λ b. let p = b.1 in cc;
+      still = λ b. let p = b.1 in cc;
       away = λ h g. absurd (elim g [
         | inl p ↦
             (let q = p.2 in cc)
@@ -194,6 +196,7 @@ module _ (past : List Doing) (x : Tables) (m : Message) (c : ChangeOf) (needs : 
   told_hosts as0 now = record {
     calm = record {
       begin = λ b. let p = b.1 in cc;
+      still = λ b. let p = b.1 in cc;
       away = λ h g. absurd (elim g [
         | inl p ↦
             (let q = p.2 in cc)
@@ -460,7 +463,7 @@ module _ (past : List Doing) (x : Tables) (m : Message) (c : ChangeOf) (needs : 
               not_above o p h f
         ],
       );
-      home = decided_home x.server past c.fileset m.moves k.here;
+      home = decided_home x.server past c.fileset m.moves k.stands.slots k.here;
       reply = λ o p. (let q : v ≡ o = (let r = p in cc) in
           inr (ap (λ (z : Written). z.number) (sym q), ap (λ (z : Written). HasReply z.answer.reply) q, refl, refl));
       brings = λ t i. elim i [ ];
@@ -572,7 +575,7 @@ module _ (past : List Doing) (x : Tables) (m : Message) (c : ChangeOf) (needs : 
         ),
         λ b. let p = b.1 in cc,
       );
-      here = λ u waits. sb.wants.here u (back_told u waits);
+      here = λ u waits. asked_by x.server begun told (λ f. refl) u.moves u.request (sb.wants.here u (back_told u waits));
       once = λ u o p q. sb.wants.once u o (back_told u p) (back_told o q);
       few = sb.wants.few;
       below = λ p i. let l = sb.wants.below p i in omega (arith, l);
@@ -588,6 +591,7 @@ module _ (past : List Doing) (x : Tables) (m : Message) (c : ChangeOf) (needs : 
 
     stands_told : Stands told y
     stands_told = record {
+      slots = sb.slots;
       hosts = hosts_still written sent (told_hosts written sb.hosts.epoch_is) (hosts_still wanted (WritesDown v)
           (wrote_hosts wanted) (hosts_still begun (MakesWant w) (made_hosts begun w) sb.hosts));
       tokens = ts_told;

@@ -82,6 +82,7 @@ module _ (past : List Doing) (x : Tables) (s : Stands past x) (h : HostId) (n : 
 
   pub stands_claimed : Stands after (record x { recovering = record x.recovering { claims = claims } })
   stands_claimed = record {
+    slots = s.slots;
     hosts = hosts_still past a hosts s.hosts;
     tokens = tokens_up past x.server h n (Reclaim c) [] live ((λ p. cc), (λ p. cc), (λ p. cc)) (λ k p. cc) names
         (λ i m. elim m [ ])

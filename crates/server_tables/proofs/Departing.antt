@@ -199,6 +199,7 @@ module _ (past : List Doing) (x : Tables) (s : Stands past x) (h : HostId) (e n 
 
   pub stands_gone : Stands after (gone_away y h)
   stands_gone = record {
+    slots = s.slots;
     hosts = hosts_left;
     tokens = subst (TokensStand after x.server) (sym grants_are)
         (tokens_gone past x.server h e n b kind x.tokens.grants (without_host x.tokens.grants h) s.tokens

@@ -380,6 +380,7 @@ module _ (past : List Doing) (x : Tables) (m : Message) (f : FetchOf) (c : IsFet
 
       stands_told : Stands told y
       stands_told = record {
+        slots = sb.slots;
         hosts = hosts_still wanted sent hosts_told (hosts_still begun (MakesWant w) (made_hosts begun w) sb.hosts);
         tokens = tokens_sent wanted x.server x.tokens.grants want x.hosts.epoch m.moves (Grant g) g.bring tokens_are
             (inl (g, refl, refl)) one_bring (λ r p. cc) ts_wanted live_wanted;

@@ -229,6 +229,7 @@ module _ (past : List Doing) (x : Tables) (s : Stands past x) (h : HostId) (n : 
         };
       })
   stands_noted t e q c = record {
+    slots = s.slots;
     hosts = hosts_still past a hosts s.hosts;
     tokens = subst (TokensStand after x.server) (sym e) (tokens_up past x.server h n b ids live quiet not_kept names
         names_all x.tokens.grants left s.tokens w);

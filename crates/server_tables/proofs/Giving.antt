@@ -89,7 +89,7 @@ module _ (past : List Doing) (server : ServerId) (h : HostId) (n : ℕ) (b : Bod
 
   pub up_hosts : HostsStill past a
   up_hosts = record {
-    calm = record { begin = λ w. let p = w.1 in cc; away = λ k g. absurd (goes k g); admits = λ k ts p. cc };
+    calm = record { begin = λ w. let p = w.1 in cc; still = λ w. let p = w.1 in cc; away = λ k g. absurd (goes k g); admits = λ k ts p. cc };
     hello = λ k p l d. quiet.0 (its_body k p.0 p.1 Hello p.2);
     down = λ k p. absurd (quiet.1 (its_body k p.0 p.1 Down p.2));
     sends = λ h0 e0 n0 b0 p. absurd (cc);
@@ -306,6 +306,7 @@ module _ (past : List Doing) (x : Tables) (left : Grants) (m : Message) (g : Giv
 
   stands_gave : Stands (gave ∷ past) y
   stands_gave = record {
+    slots = c.stands.slots;
     hosts = hosts_still past gave hosts_gave c.stands.hosts;
     tokens = tokens_up past x.server m.host m.moves (GiveBack g) g.ids c.live (
       (λ p. cc),

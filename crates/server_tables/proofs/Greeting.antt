@@ -166,6 +166,7 @@ module _ (past : List Doing) (x : Tables) (m : Message) (s : Stands past x)
       let w = light_wants x.server x.stamp past m.host m.epoch m.moves Hello l waiting in
       let o = light_answers x.server x.stamp past m.host m.epoch m.moves Hello l waiting in
       record {
+        slots = s.slots;
         hosts = hosts_listed past m.host m.epoch m.moves new up x.hosts s.hosts;
         tokens = tokens_still past had calm x.server k s.tokens;
         stamps = stamps_still past had calm x.server k (light_tells x.server x.stamp past m.host m.epoch m.moves

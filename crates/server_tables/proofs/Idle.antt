@@ -20,11 +20,13 @@ use Rattle.run_rules.specs.declared.applied.Request.TheVariants.{Change as Chang
 use Rattle.run_rules.specs.declared.applied.Request.{Request}
 use Rattle.run_rules.specs.declared.applied.Wanted.{Wanted}
 use Rattle.run_rules.specs.declared.applied.Written.{Written}
+use Rattle.run_tokens.specs.Unmoved.{MovesOne}
 use Rattle.server_tables.proofs.Still.{AnswersStill, HostsCalm, IsStill, TokensStill, WantsStill}
 
 -- it takes nothing, decides nothing, brings, asks back and keeps nothing
 pub record IsIdle (a : Doing) : Type 0 where
   pub begin : IsNewEpoch a → ⊥
+  pub still : MovesOne a → ⊥
   pub took : (h : HostId) (e n : ℕ) (b : Body) → a ≡ Took h e n b → ⊥
   pub wants : (w : Wanted) → a ≡ MakesWant w → ⊥
   pub writes : (w : Written) → a ≡ WritesDown w → ⊥
@@ -61,7 +63,7 @@ module _ (server : ServerId) (stamp : ℕ) (past : List Doing) (a : Doing) (c : 
   pub idle : IsStill server stamp past a
   idle = record {
     hosts = record {
-      calm = record { begin = c.begin; away = goes; admits = c.admits };
+      calm = record { begin = c.begin; still = c.still; away = goes; admits = c.admits };
       hello = λ h p l d. c.took h p.0 p.1 Hello p.2;
       down = λ h p. absurd (c.took h p.0 p.1 Down p.2);
       sends = ups;
@@ -94,6 +96,7 @@ in_none t (u ∷ us) p m = absurd (cc)
 pub reserves_nothing : IsIdle (Reserves [])
 reserves_nothing = record {
   begin = λ b. let p = b.1 in cc;
+  still = λ b. let p = b.1 in cc;
   took = λ h e n b p. cc;
   wants = λ w p. cc;
   writes = λ w p. cc;
@@ -110,6 +113,7 @@ no_words past h e n b p = absurd (cc)
 pub flushes_nothing : IsIdle Flushes
 flushes_nothing = record {
   begin = λ b. let p = b.1 in cc;
+  still = λ b. let p = b.1 in cc;
   took = λ h e n b p. cc;
   wants = λ w p. cc;
   writes = λ w p. cc;
@@ -131,6 +135,7 @@ pub record IsWord (b : Body) : Type 0 where
 pub says : (h : HostId) (e n : ℕ) (b : Body) → IsWord b → IsIdle (Sent h e n b)
 says h e n b c = record {
   begin = λ w. let p = w.1 in cc;
+  still = λ w. let p = w.1 in cc;
   took = λ k f m d p. cc;
   wants = λ w p. cc;
   writes = λ w p. cc;
@@ -206,7 +211,7 @@ module _ (server : ServerId) (stamp : ℕ) (past : List Doing) (h : HostId) (e n
   unwanted w p (inr (inr (inr z))) = let q = z.1 in cc
 
   pub light_calm : HostsCalm past a
-  light_calm = record { begin = λ w. let p = w.1 in cc; away = c.away; admits = λ k ts p. cc }
+  light_calm = record { begin = λ w. let p = w.1 in cc; still = λ w. let p = w.1 in cc; away = c.away; admits = λ k ts p. cc }
 
   pub light_tokens : TokensStill server past a
   light_tokens = record {

@@ -1,6 +1,6 @@
 -- What the tables tell of claims: which can be granted, what is granted, and what is said of them.
 use Rattle.std.proofs.Common.{◌≡◌, ◌⊎◌, ◌<◌, ◌/◌, ℕ, zero, suc, ◌==◌, Bool, true, false, ◌&&◌, ◌||◌, not, Some, None}
-use Rattle.std.proofs.Common.{List, [], ◌∷◌, inl, inr, refl, sym, ◌∙◌, ap, subst, eq-eqb, eqb-true, arith}
+use Rattle.std.proofs.Common.{if◌then◌else◌, List, [], ◌∷◌, inl, inr, refl, sym, ◌∙◌, ap, subst, eq-eqb, eqb-true, arith}
 use Rattle.std.specs.List.{filter, find}
 use Rattle.std.proofs.lemmas.Bool.{and_from, and_parts, cases_Bool, false≢true}
 use Rattle.base_types.specs.declared.ids.FilesetId.{FilesetId}
@@ -18,7 +18,9 @@ use Rattle.token_types.specs.Conflicts.{same_id}
 use Rattle.token_types.specs.declared.token.Token.{Token}
 use Rattle.token_types.specs.declared.token.TokenId.{TokenId}
 use Rattle.run_rules.specs.Doings.{Doing, GivenUp, HasGoneAway, HasReclaimed, Here, IsApplied, IsLive, TookNow, TookOf}
-use Rattle.run_rules.specs.Messages.{Stay, home}
+use Rattle.run_rules.specs.Doings.{slot_of}
+use Rattle.run_rules.specs.Doings.Slot.{Absent, Writable}
+use Rattle.run_rules.specs.Messages.{home}
 use Rattle.run_rules.specs.Past.{In}
 use Rattle.run_rules.specs.ServerDue.{AnswersClaim}
 use Rattle.run_rules.specs.ServerTokens.{ClaimsHere, HasTakenGives, IsGrantedId, MayAdmit}
@@ -37,6 +39,7 @@ use Rattle.server_tables.proofs.Granting.{id_is}
 use Rattle.server_tables.proofs.Listed.{all_in, in_all}
 use Rattle.server_tables.proofs.Settling.{any_in, in_any, in_map, of_map}
 use Rattle.server_tables.proofs.Without.{in_filter, to_filter}
+use Rattle.server_tables.proofs.Still.{StayPut, at_first}
 use Rattle.token_manager.proofs.Noting.{same_self}
 
 -- # Lists
@@ -78,19 +81,16 @@ none_found p (y ∷ ys) e x m t = go (none_found p ys) (p y) refl e m
 
 -- # Places
 
-pub here_from : (server : ServerId) (past : List Doing) (f : FilesetId) (n : ℕ) → Here server past f n
-    → (n ≡ 0) × (is_of server f ≡ true)
+pub here_from : (server : ServerId) (past : List Doing) (f : FilesetId) (n : ℕ) → StayPut server past
+    → Here server past f n → (n ≡ 0) × (is_of server f ≡ true)
 unfolding home
-here_from server past f n h =
-    let a : 0 ≡ n = ap (λ (y : Stay). y.moves) h in
-    let b : f.0 / 65536 ≡ server.0 = ap (λ (y : Stay). y.server.0) h in
-    (sym a, eq-eqb (f.0 / 65536) server.0 b)
+here_from server past f n put h = at_first (f.0 / 65536 == server.0) n (sym (put f) ∙ h)
 
-pub here_to : (server : ServerId) (past : List Doing) (f : FilesetId) (n : ℕ) → n ≡ 0 → is_of server f ≡ true
-    → Here server past f n
+pub here_to : (server : ServerId) (past : List Doing) (f : FilesetId) (n : ℕ) → StayPut server past → n ≡ 0
+    → is_of server f ≡ true → Here server past f n
 unfolding home
-here_to server past f n e h =
-    let q = eqb-true (f.0 / 65536) server.0 h in λ i. record { server = record { 0 = q i }; moves = sym e i }
+here_to server past f n put e h =
+    put f ∙ (ap (λ b. if b then Writable 0 else Absent) h ∙ ap Writable (sym e))
 
 -- # What a claim waits for
 
@@ -101,7 +101,7 @@ took_applied server (a ∷ past) h g (inl p) = inl (g, p, refl, omega arith)
 took_applied server (a ∷ past) h g (inr p) = inr (took_applied server past h g p.0)
 
 module _ (past : List Doing) (server : ServerId) (x : Recovering)
-    (s : RecoveryStands past server x.claims x.taken x.given_up) (h : HostId) where
+    (put : StayPut server past) (s : RecoveryStands past server x.claims x.taken x.given_up) (h : HostId) where
   given_of : (f : FilesetId) (n : ℕ) → has_taken x.taken h f n ≡ true
       → (g : Give) × TookOf server past h g.fid.fileset (GiveBack g) × (g.fid.fileset ≡ f) × (g.number ≡ n)
   given_of f n e =
@@ -130,7 +130,7 @@ module _ (past : List Doing) (server : ServerId) (x : Recovering)
       elim (or_parts (o.give == 0) (not (is_here server o) || has_taken x.taken h o.fileset o.give) a) [
         | inl z ↦ (let q = eqb-true o.give 0 z in absurd (omega (arith, some, q)))
         | inr z ↦ elim (or_parts (not (is_here server o)) (has_taken x.taken h o.fileset o.give) z) [
-          | inl n ↦ (let p = here_from server past o.fileset o.moves here in
+          | inl n ↦ (let p = here_from server past o.fileset o.moves put here in
               absurd (false≢true (sym (not_true (is_here server o) n) ∙ and_from (o.moves == 0)
               (is_of server o.fileset) (eq-eqb o.moves 0 p.0) p.1)))
           | inr t ↦ (let g = given_of o.fileset o.give t in
@@ -161,7 +161,7 @@ module _ (past : List Doing) (server : ServerId) (x : Recovering)
           | inr z ↦ or_right (o.give == 0) (not (is_here server o) || has_taken x.taken h o.fileset o.give) (elim
               (cases_Bool (is_here server o)) [
                 | inl e ↦ (let p = and_parts (o.moves == 0) (is_of server o.fileset) e in
-                    let q = t o i (above z) (here_to server past o.fileset o.moves (eqb-true o.moves 0 p.0) p.1) in
+                    let q = t o i (above z) (here_to server past o.fileset o.moves put (eqb-true o.moves 0 p.0) p.1) in
                     or_right (not (is_here server o)) (has_taken x.taken h o.fileset o.give)
                     (subst (λ (k : ℕ). has_taken x.taken h o.fileset k ≡ true) q.3
                     (subst (λ (f : FilesetId). has_taken x.taken h f q.0.number ≡ true) q.2
@@ -228,11 +228,11 @@ module _ (past : List Doing) (server : ServerId) (x : Recovering)
 -- # Which claims can be granted
 
 module _ (past : List Doing) (server : ServerId) (x : Recovering)
-    (s : RecoveryStands past server x.claims x.taken x.given_up) where
+    (put : StayPut server past) (s : RecoveryStands past server x.claims x.taken x.given_up) where
   pub ripe_is : (c : Claimed) → first_ripe x server ≡ Some c → In c x.claims × HasTakenGives server past c.host c.claim
   ripe_is c e =
       let f = found_first (λ (claimed : Claimed). has_all x.taken server claimed.host claimed.claim) x.claims c e in
-      (f.0, all_taken past server x s c.host c.claim f.1)
+      (f.0, all_taken past server x put s c.host c.claim f.1)
 
   pub none_ripe : first_ripe x server ≡ None → (h : HostId) (n : ℕ) (claim : ReclaimOf)
       → TookNow past h n (Reclaim claim)
@@ -240,7 +240,7 @@ module _ (past : List Doing) (server : ServerId) (x : Recovering)
   none_ripe e h n claim took never live t =
       none_found (λ (claimed : Claimed). has_all x.taken server claimed.host claimed.claim) x.claims e
       (record { host = h; claim = claim }) (s.claim h n claim took never live)
-      (taken_all past server x s h never live.1 claim t)
+      (taken_all past server x put s h never live.1 claim t)
 
 -- # Which tokens are granted again
 
@@ -255,7 +255,8 @@ pub record AreClaimed (keeps : Token → Bool) (claimed tokens : List Token) : T
   pub apart : (t u : Token) → In t tokens → In u tokens → t.id ≡ u.id → t ≡ u
 
 module _ (past : List Doing) (server : ServerId) (x : Recovering)
-    (s : RecoveryStands past server x.claims x.taken x.given_up) (h : HostId) (never : HasReclaimed past h → ⊥)
+    (put : StayPut server past) (s : RecoveryStands past server x.claims x.taken x.given_up) (h : HostId)
+    (never : HasReclaimed past h → ⊥)
     (live : IsLive past h) (grants : Grants) (z : TokensStand past server grants) (claim : ReclaimOf)
     (tokens : List Token)
     (a : AreClaimed (is_claimed x grants server h claim) claim.tokens tokens) where
@@ -289,13 +290,13 @@ module _ (past : List Doing) (server : ServerId) (x : Recovering)
         o.0,
         o.1,
         same_fileset o.0.fileset t.fid.fileset p.0,
-        here_to server past o.0.fileset o.0.moves
+        here_to server past o.0.fileset o.0.moves put
             (eqb-true o.0.moves 0 q.0) q.1,
       )
 
   here_named : (t : Token) → ClaimsHere server past claim t → names claim server t.fid.fileset ≡ true
   here_named t c =
-      let p = here_from server past c.0.fileset c.0.moves c.3 in
+      let p = here_from server past c.0.fileset c.0.moves put c.3 in
       in_any (λ (out : Outstanding). (out.fileset.0 == t.fid.fileset.0) && is_here server out) c.0 claim.numbers c.1
       (and_from (c.0.fileset.0 == t.fid.fileset.0) (is_here server c.0) (eq-eqb c.0.fileset.0 t.fid.fileset.0 (ap (λ
       (f : FilesetId). f.0) c.2))
@@ -303,7 +304,7 @@ module _ (past : List Doing) (server : ServerId) (x : Recovering)
 
   not_up : (t : Token) → (GivenUp server past h t.id → ⊥) → gave_up x.given_up h t.id ≡ false
   not_up t none = elim (cases_Bool (gave_up x.given_up h t.id)) [
-    | inl e ↦ absurd (none (up_of past server x s h t.id e))
+    | inl e ↦ absurd (none (up_of past server x put s h t.id e))
     | inr e ↦ e
   ]
 
@@ -322,7 +323,7 @@ module _ (past : List Doing) (server : ServerId) (x : Recovering)
           f.0,
           own t f.0,
           named_here t p.1,
-          (λ u. false≢true (sym p.2 ∙ has_up past server x s h never live.1 t.id u)),
+          (λ u. false≢true (sym p.2 ∙ has_up past server x put s h never live.1 t.id u)),
           not_granted t p.0,
         );
     whole = λ t i here up none. a.all t i (and_from (not (has_id grants.table.tokens t.id))

@@ -21,6 +21,7 @@ use Rattle.run_rules.specs.declared.applied.Request.{Request}
 use Rattle.run_rules.specs.declared.applied.Wanted.{Wanted}
 use Rattle.server_tables.specs.declared.hosts.Hosts.{Hosts}
 use Rattle.server_tables.specs.declared.pending.Pending.{Pending}
+use Rattle.server_tables.proofs.Still.{asked_by}
 use Rattle.server_tables.specs.Standing.{HostsStand, StampsStand, TokensStand, WantsStand, tokens_of}
 
 -- the host's tokens are gone, and the notes of them
@@ -210,7 +211,7 @@ module _ (past : List Doing) (server : ServerId) (h : HostId) (e n : ℕ) (b : B
       ]);
       live = λ w u. live_on w.host (waited w u).1 (s.live w (waited w u).0);
       took = λ w u. inr (s.took w (waited w u).0, λ z. let q = z.1 in cc);
-      here = λ w u. s.here w (waited w u).0;
+      here = λ w u. asked_by server past (a ∷ past) (λ f. refl) w.moves w.request (s.here w (waited w u).0);
       once = λ w v u x. s.once w v (waited w u).0 (waited v x).0;
       few = λ p m. s.few p (of p m).0;
       below = λ p m. s.below p (of p m).0;

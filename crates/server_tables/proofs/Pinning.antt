@@ -212,7 +212,7 @@ module _ (past : List Doing) (server : ServerId) (h : HostId) (n : ℕ) (named :
 
   pub kept_hosts : HostsStill past a
   kept_hosts = record {
-    calm = record { begin = λ w. let p = w.1 in cc; away = λ k g. absurd (goes k g); admits = λ k ts p. cc };
+    calm = record { begin = λ w. let p = w.1 in cc; still = λ w. let p = w.1 in cc; away = λ k g. absurd (goes k g); admits = λ k ts p. cc };
     hello = λ k p l d. let q = its_body k p.0 p.1 Hello p.2 in cc;
     down = λ k p. absurd (let q = its_body k p.0 p.1 Down p.2 in cc);
     sends = λ h0 e0 n0 b0 p. absurd (cc);
@@ -360,6 +360,7 @@ stands_kept past x h n named live here pinned w single s =
     let wants = kept_wants past x.server h n named live here in
     let a = Took h (epoch past) n (Kept named) in
     record {
+      slots = s.slots;
       hosts = hosts_still past a hosts s.hosts;
       tokens = tokens_pinned past x.server h n named live here x.tokens.grants pinned s.tokens w single;
       stamps = stamps_pinned past x.server h n named live here x.tokens.grants pinned s.tokens w single s.stamps;

@@ -24,6 +24,7 @@ use Rattle.server_tables.specs.Standing.{ChangesStand, QueueStands, WantsStand, 
 use Rattle.server_tables.proofs.Still.{AnswersStill, HostsStill, TokensStill, dones_of, last_still, live_still}
 use Rattle.server_tables.proofs.Still.{over_still}
 use Rattle.server_tables.proofs.Idle.{up_to}
+use Rattle.server_tables.proofs.Still.{asked_by}
 use Rattle.server_tables.proofs.Greeting.{in_end, in_front, in_parts}
 
 pub same_refl : (r : Request) → CannotBothWait r r
@@ -53,6 +54,7 @@ module _ (past : List Doing) (w : Wanted) where
   made_hosts = record {
     calm = record {
       begin = λ b. let p = b.1 in cc;
+      still = λ b. let p = b.1 in cc;
       away = λ h g. absurd (elim g [
         | inl p ↦
             (let q = p.2 in cc)
@@ -143,11 +145,11 @@ module _ (past : List Doing) (w : Wanted) where
         )
         | inr k ↦ inr (s.took u k, made_hosts.calm.begin)
       ];
-      here = λ u x. elim (made_waits u x) [
+      here = λ u x. asked_by server past (MakesWant w ∷ past) (λ f. refl) u.moves u.request (elim (made_waits u x) [
         | inl e ↦ subst (λ (y : Wanted). IsAskedHere server past y.moves y.request)
             (sym e) here
         | inr k ↦ s.here u k
-      ];
+      ]);
       once = once;
       few = λ p m. elim (in_parts p ps (p0 ∷ []) m) [
         | inl k ↦ s.few p k
@@ -274,6 +276,7 @@ module _ (past : List Doing) (server : ServerId) (next : ℕ) (ps : List Pending
   told_hosts = record {
     calm = record {
       begin = λ z. let p = z.1 in cc;
+      still = λ z. let p = z.1 in cc;
       away = λ h g. absurd (elim g [
         | inl p ↦
             (let q = p.2 in cc)
@@ -332,7 +335,7 @@ module _ (past : List Doing) (server : ServerId) (next : ℕ) (ps : List Pending
     ]);
     live = λ u x. live_still past told told_hosts.calm u.host (s.live u (told_back u x));
     took = λ u x. inr (s.took u (told_back u x), told_hosts.calm.begin);
-    here = λ u x. s.here u (told_back u x);
+    here = λ u x. asked_by server past (told ∷ past) (λ f. refl) u.moves u.request (s.here u (told_back u x));
     once = λ u v x y. s.once u v (told_back u x) (told_back v y);
     few = λ p m. s.few p (of p m).0;
     below = λ p m. s.below p (of p m).0;

@@ -56,7 +56,7 @@ module _ (past : List Doing) (x : Tables) (s : Stands past x) (tokens rest : Lis
   pub may_one : MayAsk x.server past x.tokens.grants x.stamp r.0 r.1 r.2
   may_one = record {
     name = record {
-      here = here_to x.server past r.2.fid.fileset r.1 f.moves
+      here = here_to x.server past r.2.fid.fileset r.1 s.slots f.moves
           (subst (λ k. is_of x.server k.fileset ≡ true) f.fid (o.homes f.token f.has));
       stamp_is = f.stamp_is;
       reclaimed = let b = o.asked_back f.token f.has in subst (HasReclaimed past) f.host (b.over f.token.host

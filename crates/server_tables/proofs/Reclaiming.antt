@@ -81,6 +81,7 @@ module _ (past : List Doing) (x : Tables) (s : Stands past x) (h : HostId) (toke
       (all_admitted x.tokens.grants tokens new s.tokens.noted) y.tokens.queue queue_told (forgotten x.recovering h)
       (is_forgotten x.recovering h) s in
       record {
+        slots = r.slots;
         hosts = r.hosts;
         tokens = subst (TokensStand after x.server) (sym grants_are) r.tokens;
         stamps = subst (λ (g : Grants). StampsStand after g x.stamp) (sym grants_are) r.stamps;

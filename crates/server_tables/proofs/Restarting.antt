@@ -84,6 +84,7 @@ module _ (past : List Doing) (x : Tables) (s : Stands past x) where
 
   pub stands_begun : Stands (a ∷ past) y
   stands_begun = record {
+    slots = s.slots;
     hosts = record {
       epoch_is = epoch_is;
       sent_up_to = λ h e n b w. elim w [

@@ -173,6 +173,7 @@ module _ (server : ServerId) (past : List Doing) (grants marked : Grants) (stamp
   asks_hosts = record {
     calm = record {
       begin = λ b. let p = b.1 in cc;
+      still = λ b. let p = b.1 in cc;
       away = λ k g. absurd (elim g [
         | inl p ↦
             (let q = p.2 in cc)

@@ -228,6 +228,7 @@ module _ (past : List Doing) (x : Tables) (p : Pending) (h : HostId) (n : ℕ) (
             pending = qs;
           })
           grant_stands = record {
+            slots = c.stands.slots;
             hosts = hosts_still past sent hosts_told c.stands.hosts;
             tokens = tokens_sent past x.server x.tokens.grants want x.hosts.epoch n (Grant g) g.bring tokens_are
                 (inl (g, refl, refl)) one_bring (λ r q. cc) c.stands.tokens live_w;
@@ -302,6 +303,7 @@ module _ (past : List Doing) (x : Tables) (p : Pending) (h : HostId) (n : ℕ) (
             pending = qs;
           })
           none_stands = record {
+            slots = c.stands.slots;
             hosts = hosts_still past sent hosts_told c.stands.hosts;
             tokens = tokens_still past sent hosts_told.calm x.server still_tokens c.stands.tokens;
             stamps = stamps_still past sent hosts_told.calm x.server still_tokens told_stamp more;

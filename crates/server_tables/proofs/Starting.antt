@@ -65,6 +65,7 @@ module _ (server : ServerId) (e : ℕ) (roster : Roster) where
 
   pub stands_first : Stands past (starting server e roster)
   stands_first = record {
+    slots = λ f. refl;
     hosts = record {
       epoch_is = refl;
       sent_up_to = λ h f n b w. absurd (elim w [ inl p ↦ cc | inr p ↦ p ]);

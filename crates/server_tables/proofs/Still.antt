@@ -1,5 +1,6 @@
 -- A doing that changes none of the words of a server leaves all tables standing.
-use Rattle.std.proofs.Common.{◌≡◌, ◌⊎◌, ℕ, ◌≤◌, List, Some, [], ◌∷◌, inl, inr, refl, sym, ◌∙◌, ap, subst}
+use Rattle.std.proofs.Common.{◌≡◌, ◌⊎◌, ℕ, ◌≤◌, ◌==◌, Bool, List, Some, [], ◌∷◌, false, if◌then◌else◌, inl, inr, refl}
+use Rattle.std.proofs.Common.{sym, true, ◌∙◌, ap, subst}
 use Rattle.base_types.specs.declared.ids.FilesetId.{FilesetId}
 use Rattle.base_types.specs.declared.ids.Fid.{Fid}
 use Rattle.base_types.specs.declared.ids.HostId.{HostId}
@@ -19,12 +20,16 @@ use Rattle.token_types.specs.declared.token.TokenId.{TokenId}
 use Rattle.run_rules.specs.Doings.{Doing, Enlists, GivesUp, GoesAway, Granted, HasGoneAway, HasGoneDown, HasReclaimed}
 use Rattle.run_rules.specs.Doings.{Hears, IsDurable, IsLive, IsNewEpoch, IsNewlyGranted}
 use Rattle.run_rules.specs.Doings.{Issues, Listed, NoGrace, Pinned, SentTo, StayStamp}
-use Rattle.run_rules.specs.Doings.{TakesFrom, TakesOf, TookNow, UsesStamp, epoch, epoch_after}
-use Rattle.run_rules.specs.Doings.Doing.{Admits, BeginsEpoch, Flushes, MakesWant, Reserves, Sent, Took, WritesDown}
-use Rattle.run_rules.specs.Messages.{Stay}
+use Rattle.run_rules.specs.Doings.{TakesFrom, TakesOf, TookNow, UsesStamp, epoch, epoch_after, slot_of}
+use Rattle.run_rules.specs.Doings.Slot.{Absent, Writable}
+use Rattle.run_rules.specs.Doings.Doing.{Admits, BeginsEpoch, Flushes, MakesWant, Moves, Reserves, Sent, Took}
+use Rattle.run_rules.specs.Doings.Doing.{WritesDown}
+use Rattle.run_rules.specs.Messages.{home}
 use Rattle.run_rules.specs.Past.{In}
 use Rattle.run_rules.specs.ServerMay.{HasRevoked}
-use Rattle.run_rules.specs.ServerDecides.{IsDecidedHere}
+use Rattle.run_rules.specs.ServerDecides.{IsAskedHere, IsDecidedHere}
+use Rattle.run_rules.specs.declared.applied.Request.{Request}
+use Rattle.run_rules.specs.declared.applied.Request.TheVariants.{Change, Fetch}
 use Rattle.run_rules.specs.Wants.{IsQueued, IsQueuedBefore, Unwants}
 use Rattle.run_rules.specs.declared.applied.Wanted.{Wanted}
 use Rattle.run_rules.specs.declared.applied.Written.{Written}
@@ -38,6 +43,9 @@ use Rattle.server_tables.specs.declared.recovering.GaveUp.{GaveUp}
 use Rattle.server_tables.specs.declared.recovering.Answered.{Answered}
 use Rattle.server_tables.specs.Standing.{AnsweredStand, ChangesStand, GivesStand, HostsStand, IsLastChange}
 use Rattle.server_tables.specs.Standing.{QueueStands, RecoveryStands, Stands}
+use Rattle.run_tokens.specs.Unmoved.{MovesOne}
+use Rattle.run_tokens.proofs.Unmoved.{slot_on}
+use Rattle.run_rules.specs.Doings.Doing.{Gets, Puts}
 use Rattle.server_tables.specs.Standing.{StampsStand, TokensStand, WantsStand, WroteThis}
 
 pub same_epoch : (a : Doing) (n : ℕ) → (IsNewEpoch a → ⊥) → epoch_after a n ≡ n
@@ -49,10 +57,14 @@ same_epoch (WritesDown w) n calm = refl
 same_epoch (Admits h ts) n calm = refl
 same_epoch (Sent h e m b) n calm = refl
 same_epoch (Reserves ts) n calm = refl
+same_epoch (Moves move) n calm = refl
+same_epoch (Gets from k b) n calm = refl
+same_epoch (Puts to k b) n calm = refl
 
--- it begins no epoch, admits no claim, and no host goes away by it; a host may come on the list
+-- it begins no epoch, moves no fileset, admits no claim, and no host goes away by it; a host may come on the list
 pub record HostsCalm (past : List Doing) (a : Doing) : Type 0 where
   pub begin : IsNewEpoch a → ⊥
+  pub still : MovesOne a → ⊥
   pub away : (h : HostId) → GoesAway past a h → HasGoneAway past h
   pub admits : (h : HostId) (ts : List Token) → a ≡ Admits h ts → ⊥
 
@@ -93,11 +105,28 @@ pub record AnswersStill (server : ServerId) (past : List Doing) (a : Doing) : Ty
   pub dones : (h : HostId) (e n : ℕ) (d : DoneOf) → a ≡ Sent h e n (Done d) → ⊥
   pub writes : (w : Written) → a ≡ WritesDown w → ⊥
 
+-- no fileset has moved, after these doings
+abbrev pub StayPut : ServerId → List Doing → Type 0
+StayPut server past = (f : FilesetId) → slot_of server past f ≡ slot_of server [] f
+
+pub at_first : (b : Bool) (n : ℕ) → (if b then Writable 0 else Absent) ≡ Writable n → (n ≡ 0) × (b ≡ true)
+at_first true n e = (cc, refl)
+at_first false n e = absurd (let q : Absent ≡ Writable n = e in cc)
+
 -- what is decided here is of the first stay
-pub decided_home : (server : ServerId) (past : List Doing) (f : FilesetId) (n : ℕ) → IsDecidedHere server past f n
-    → n ≡ 0
-decided_home server past f n (inl p) = p.1
-decided_home server past f n (inr p) = sym (ap (λ (y : Stay). y.moves) p)
+pub decided_home : (server : ServerId) (past : List Doing) (f : FilesetId) (n : ℕ) → StayPut server past
+    → IsDecidedHere server past f n → n ≡ 0
+decided_home server past f n put (inl p) = p.1
+decided_home server past f n put (inr p) = (at_first ((home f).0 == server.0) n (sym (put f) ∙ p)).0
+
+-- where filesets are as before, a request is about one that is here as before
+pub asked_by : (server : ServerId) (p q : List Doing) → ((f : FilesetId) → slot_of server q f ≡ slot_of server p f)
+    → (n : ℕ) (r : Request) → IsAskedHere server p n r → IsAskedHere server q n r
+asked_by server p q same n (Fetch f) h = same f.fid.fileset ∙ h
+asked_by server p q same n (Change c) h = (
+  elim h.0 [ inl none ↦ inl none | inr here ↦ inr (same c.fileset ∙ here) ],
+  h.1,
+)
 
 pub took_listed : (past : List Doing) (h : HostId) (n : ℕ) (b : Body) → TookNow past h n b → Listed past h
 took_listed [] h n b w = elim w [ ]
@@ -220,7 +249,9 @@ module _ (past : List Doing) (a : Doing) (c : HostsCalm past a) where
       order_all = λ p q m n b. s.order_all p q m n (before_back p.wanted q.wanted b);
       live = λ w u. live_still w.host (s.live w (waits_back w u));
       took = λ w u. inr (s.took w (waits_back w u), c.begin);
-      here = λ w u. s.here w (waits_back w u);
+      here = λ w u.
+          asked_by server past (a ∷ past) (λ f. slot_on a f (slot_of server past f) c.still) w.moves w.request
+          (s.here w (waits_back w u));
       once = λ w v u x. s.once w v (waits_back w u) (waits_back v x);
       few = s.few;
       below = s.below;
@@ -365,6 +396,7 @@ pub record IsStill (server : ServerId) (stamp : ℕ) (past : List Doing) (a : Do
 pub still : (past : List Doing) (a : Doing) (x : Tables) → IsStill x.server x.stamp past a → Stands past x → Stands
     (a ∷ past) x
 still past a x c s = record {
+  slots = λ f. slot_on a f (slot_of x.server past f) c.hosts.calm.still ∙ s.slots f;
   hosts = hosts_still past a c.hosts s.hosts;
   tokens = tokens_still past a c.hosts.calm x.server c.tokens s.tokens;
   stamps = stamps_still past a c.hosts.calm x.server c.tokens c.tells s.stamps;

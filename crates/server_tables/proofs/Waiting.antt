@@ -110,6 +110,7 @@ module _ (past : List Doing) (x : Tables) (s : Stands past x) (r : Asking)
 
   pub stands_a : Stands (a ∷ past) (asked x r.2)
   stands_a = record {
+    slots = s.slots;
     hosts = hosts_still past a hosts_a s.hosts;
     tokens = tokens_asked x.server past x.tokens.grants (marking x.tokens.grants r.2.ids) x.stamp r.0 x.hosts.epoch
         r.1 r.2 s.hosts.epoch_is may (is_marked x.tokens.grants r.2.ids) s.tokens;
@@ -256,6 +257,7 @@ module _ (past : List Doing) (x : Tables) (m : Message) (f : FetchOf) (c : IsFet
 
   stands_queued : Stands wanted queued
   stands_queued = record {
+    slots = (sb past x m f c).slots;
     hosts = hosts_still begun (MakesWant w) (made_hosts begun w) (sb past x m f c).hosts;
     tokens = ts_wanted past x m f c;
     stamps = ss_wanted past x m f c;

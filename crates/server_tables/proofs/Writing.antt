@@ -33,6 +33,7 @@ use Rattle.server_tables.proofs.Queueing.{same_sym}
 use Rattle.server_tables.proofs.Settling.{both}
 use Rattle.server_tables.proofs.Still.{ClaimsStill, HostsStill, TokensStill, gives_still, hosts_still, live_still}
 use Rattle.server_tables.proofs.Still.{decided_home, over_still}
+use Rattle.server_tables.proofs.Still.{asked_by}
 use Rattle.server_tables.proofs.Still.{recovery_still, stamps_still, tokens_still}
 
 same_host : (a b : HostId) → (a.0 == b.0) ≡ true → a ≡ b
@@ -88,6 +89,7 @@ module _ (past : List Doing) (x : Tables) (z : Stands past x) (w : Wanted) (wait
   wrote_hosts = record {
     calm = record {
       begin = λ b. let p = b.1 in cc;
+      still = λ b. let p = b.1 in cc;
       away = λ h g. absurd (elim g [ inl p ↦ (let q = p.2 in cc) | inr p ↦ (let q = p.0.1 in cc) ]);
       admits = λ h ts p. cc;
     };
@@ -115,6 +117,7 @@ module _ (past : List Doing) (x : Tables) (z : Stands past x) (w : Wanted) (wait
   told_hosts = record {
     calm = record {
       begin = λ b. let p = b.1 in cc;
+      still = λ b. let p = b.1 in cc;
       away = λ h g. absurd (elim g [ inl p ↦ (let q = p.2 in cc) | inr p ↦ (let q = p.0.1 in cc) ]);
       admits = λ h ts p. cc;
     };
@@ -242,7 +245,7 @@ module _ (past : List Doing) (x : Tables) (z : Stands past x) (w : Wanted) (wait
       live = λ u y. live_after u.host (z.wants.live u (back_after u y));
       took = λ u y.
           inr (inr (z.wants.took u (back_after u y), λ b. let p = b.1 in cc), λ b. let p = b.1 in cc);
-      here = λ u y. z.wants.here u (back_after u y);
+      here = λ u y. asked_by x.server past after (λ f. refl) u.moves u.request (z.wants.here u (back_after u y));
       once = λ u o p q. z.wants.once u o (back_after u p) (back_after o q);
       few = λ p i. z.wants.few p (of p i).0;
       below = λ p i. z.wants.below p (of p i).0;
@@ -312,7 +315,7 @@ module _ (past : List Doing) (x : Tables) (z : Stands past x) (w : Wanted) (wait
             | inr p ↦ not_above o p h f
           ],
         );
-        home = decided_home x.server past c.fileset w.moves
+        home = decided_home x.server past c.fileset w.moves z.slots
             (subst (IsAskedHere x.server past w.moves) is (z.wants.here w waits)).0;
         reply = λ o p. (let q : v ≡ o = (let r = p in cc) in
             inr (ap (λ (y : Written). y.number) (sym q), ap (λ (y : Written). HasReply y.answer.reply) q, refl, refl));
@@ -410,6 +413,7 @@ module _ (past : List Doing) (x : Tables) (z : Stands past x) (w : Wanted) (wait
       pub stands_after : (left : List WantOf) → left ≡ map want_for qs
           → Stands after (record x { changes = new; pending = qs; tokens = record x.tokens { queue = left } })
       stands_after left queue_is = record {
+        slots = z.slots;
         hosts = hosts_still written told told_hosts (hosts_still past wrote wrote_hosts z.hosts);
         tokens = tokens_still written told told_hosts.calm x.server told_tokens
             (tokens_still past wrote wrote_hosts.calm x.server wrote_tokens z.tokens);

@@ -1,6 +1,7 @@
 -- How the tables of a server's machine stand for what the server did. `past` are its doings.
 use Rattle.std.specs.Prelude.{◌≡◌, ◌⊎◌, ℕ, ◌≤◌, ◌<◌, true, false, List, [], Some, is_some, map, length}
 use Rattle.base_types.specs.declared.ids.Fid.{Fid}
+use Rattle.base_types.specs.declared.ids.FilesetId.{FilesetId}
 use Rattle.base_types.specs.declared.ids.HostId.{HostId}
 use Rattle.base_types.specs.declared.ids.ServerId.{ServerId}
 use Rattle.base_types.specs.declared.limits.TheConstants.{NEEDS_MAX}
@@ -21,7 +22,7 @@ use Rattle.token_types.specs.declared.token.Token.{Token}
 use Rattle.token_types.specs.declared.token.TokenId.{TokenId}
 use Rattle.run_rules.specs.Doings.{Doing, GivenUp, Granted, HasGoneAway, HasGoneDown, HasReclaimed, HasUsedStamp}
 use Rattle.run_rules.specs.Doings.{IsApplied, IsDurable, IsLive, Issued, Listed, ListedNow, NoGrace, Pinned, Reserved}
-use Rattle.run_rules.specs.Doings.{SentTo, StayStamp, TookNow, TookOf, epoch}
+use Rattle.run_rules.specs.Doings.{SentTo, StayStamp, TookNow, TookOf, epoch, slot_of}
 use Rattle.run_rules.specs.Doings.Doing.{WritesDown}
 use Rattle.run_rules.specs.Past.{In, Once}
 use Rattle.run_rules.specs.ServerDecides.{IsAskedHere}
@@ -187,6 +188,8 @@ pub record AnsweredStand (past : List Doing) (answers : List Answered) : Type 0 
 
 -- the tables stand for these doings
 pub record Stands (past : List Doing) (x : Tables) : Type 0 where
+  -- no fileset has moved
+  pub slots : (f : FilesetId) → slot_of x.server past f ≡ slot_of x.server [] f
   pub hosts : HostsStand past x.hosts
   pub tokens : TokensStand past x.server x.tokens.grants
   pub stamps : StampsStand past x.tokens.grants x.stamp
