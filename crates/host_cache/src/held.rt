@@ -62,11 +62,17 @@ pub(crate) fn are_alike_for(tokens: &[Token], one: Kind, other: Kind) -> bool
     ensures { result ≡ true → AreAlikeFor one other tokens.now }
 {
     for token in tokens {
-        if helps(token.kind, one) != helps(token.kind, other) {
+        if !is_alike_for(token.kind, one, other) {
             return false;
         }
     }
     true
+}
+
+fn is_alike_for(kind: Kind, one: Kind, other: Kind) -> bool
+    ensures { result ≡ true → helps kind one ≡ helps kind other }
+{
+    helps(kind, one) == helps(kind, other)
 }
 
 /// Brings the tokens that help to cover a need to the front, and counts them. The order among these stays, and that
