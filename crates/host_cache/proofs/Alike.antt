@@ -1,7 +1,9 @@
 -- Needs for which the same held tokens help to cover them.
-use Rattle.std.proofs.Common.{◌≡◌, ◌+◌, ◌<◌, ℕ, Bool, true, false, cond, ◌&&◌, not, List, [], ◌∷◌, ◌++◌, take, length}
-use Rattle.std.proofs.Common.{get_or, All, refl, sym, ap, ◌∙◌, subst}
+use Rattle.std.proofs.Common.{◌≡◌, ◌+◌, ◌<◌, ℕ, Bool, true, false, cond, ◌==◌, ◌&&◌, not, List, [], ◌∷◌, ◌++◌, take, length}
+use Rattle.std.proofs.Common.{get_or, All, refl, sym, ap, ◌∙◌, arith}
 use Rattle.std.specs.List.{filter}
+use Rattle.std.proofs.lemmas.Bool.{and_parts}
+use Rattle.std.proofs.lemmas.Grind.{common_steps}
 use Rattle.std.proofs.lemmas.List.Elements.{All-nil, All-cons, All-head, All-tail, All-filter, All-append}
 use Rattle.base_types.specs.Ids.{same_fid}
 use Rattle.base_types.specs.declared.ids.Fid.{Fid}
@@ -84,3 +86,17 @@ alike_held fid a b (h ∷ held) all =
           (alike_held fid a b held (All-tail Q h.token rest own))
       | false ↦ λ e own. All-cons P h held (apart fid a b h e) (alike_held fid a b held own)
     ]) refl all
+
+number_is : (a b : ℕ) → (a == b) ≡ true → a ≡ b
+number_is a b h = grind (arith, common_steps, h)
+
+-- one fid for two
+pub one_fid : (a b : Fid) →
+    true ≡ ((a.fileset.0 == b.fileset.0) && ((a.anode == b.anode) && (a.unique == b.unique))) → a ≡ b
+one_fid a b h =
+    let first = and_parts (a.fileset.0 == b.fileset.0) ((a.anode == b.anode) && (a.unique == b.unique)) (sym h) in
+    let second = and_parts (a.anode == b.anode) (a.unique == b.unique) first.1 in
+    let f = number_is a.fileset.0 b.fileset.0 first.0 in
+    let n = number_is a.anode b.anode second.0 in
+    let u = number_is a.unique b.unique second.1 in
+    λ i. record { fileset = record { 0 = f i }; anode = n i; unique = u i }
