@@ -1,5 +1,6 @@
 -- Needs for which the same held tokens help to cover them.
-use Rattle.std.proofs.Common.{◌≡◌, ◌+◌, ◌<◌, ℕ, Bool, true, false, cond, ◌==◌, ◌&&◌, not, List, [], ◌∷◌, ◌++◌, take, length}
+use Rattle.std.proofs.Common.{◌≡◌, ◌+◌, ◌<◌, ℕ, Bool, true, false, cond}
+use Rattle.std.proofs.Common.{◌==◌, ◌&&◌, not, List, [], ◌∷◌, ◌++◌, take, length}
 use Rattle.std.proofs.Common.{get_or, All, refl, sym, ap, ◌∙◌, arith}
 use Rattle.std.specs.List.{filter}
 use Rattle.std.proofs.lemmas.Bool.{and_parts}
@@ -11,7 +12,7 @@ use Rattle.token_types.specs.declared.token.Kind.{Kind}
 use Rattle.token_types.specs.declared.token.Need.{Need}
 use Rattle.token_types.specs.declared.token.Token.{Token}
 use Rattle.host_cache.specs.declared.held.Held.{Held}
-use Rattle.host_cache.specs.Holding.{first_by, helps, helps_cover, tokens_of, used, used_each, AreAlike, AreAlikeFor}
+use Rattle.host_cache.specs.Holding.{helps, helps_cover, tokens_of, used, used_each, AreAlike, AreAlikeFor}
 use Rattle.host_cache.specs.Files.{file_key, same_key}
 use Rattle.host_cache.specs.Seen.{of_key}
 use Rattle.host_cache.proofs.Marked.{used_next}
