@@ -108,9 +108,13 @@ impl Name {
 }
 
 impl PartialEq for Name {
+    ghost use Rattle.std.proofs.Common.{rules};
+    ghost use Rattle.std.specs.Cmp.Rules.{comparing};
     ghost use Rattle.base_types.specs.Name.{same_name};
 
     ghost eq = { λ a b. same_name a b };
+
+    ghost laws = { Prim.search (comparing, rules) };
 
     fn eq(&self, other: &Name) -> bool {
         self.as_bytes() == other.as_bytes()

@@ -345,6 +345,9 @@ cut_written ss list next host from bytes i k cut w e =
     ∙ ap (λ ys. (a ++ filter low m) ++ written host from bytes ++ ys) above in
     put_bytes ss list next i k e ∙ ap (λ ys. a ++ (ys ++ b)) w
     ∙ regroup a (filter low m) (written host from bytes) (filter high m) b ∙ sym whole
+  where
+    regroup : (a x w y b : List Unsaved) → a ++ ((x ++ w ++ y) ++ b) ≡ (a ++ x) ++ w ++ (y ++ b)
+    regroup a x w y b = simp append_assoc
 
 -- a piece is put where nothing is written over
 pub piece_put : (ss next : List Stretch) (host : HostId) (from : ℕ) (bytes : List ℕ) (i k : ℕ) → IsCut ss from
@@ -363,9 +366,6 @@ piece_each ss next host from bytes i put each some within =
     let one : is_stretch (piece_of host from bytes) ≡ true =
     and_both _ _ (lt-ltb 0 (length bytes) some) (le-leb (from + length bytes) FILE_BYTES_MAX within) in
     each_put ss (piece_of host from bytes ∷ []) next i i put each (and_both _ _ one refl)
-  where
-    regroup : (a x w y b : List Unsaved) → a ++ ((x ++ w ++ y) ++ b) ≡ (a ++ x) ++ w ++ (y ++ b)
-    regroup a x w y b = simp append_assoc
 
 -- and the stretches stay as they must be
 pub write_stands : (ss next : List Stretch) (host : HostId) (from : ℕ) (bytes : List ℕ) → are_stretches ss ≡ true

@@ -5,9 +5,8 @@ use Rattle.base_types.specs.declared.span.Span.{Span}
 use Rattle.base_types.specs.Spans.{in_spans, has_byte}
 use Rattle.token_ranges.proofs.Apart.{next_of, same_at}
 use Rattle.token_ranges.proofs.Joining.{parts_apart, starts, grows, with_next, joined_apart, joined_positions}
-use Rattle.token_ranges.proofs.Joining.{begins_behind, begins_none, Begins}
+use Rattle.token_ranges.proofs.Joining.{begins_behind, begins_none}
 use Rattle.token_ranges.proofs.span_set.joint_of.Goals as goal
-use Rattle.token_ranges.proofs.span_set.joint_of.Goals.{then-loop-end-test+else-spans-end, else-loop-end-test}
 
 pub loop-end-init : goal.loop-end-init
 loop-end-init c =
@@ -30,21 +29,29 @@ loop-end-preserved c =
     (with_next _ _ _ _ _ _ split c.loop-end.invariant.1.0) in
     (omega (arith, c.loop-end-test.true), (grown, omega (arith, c.loop-end.invariant.1.1)))
 
-pub returns-clause-apart : goal.returns-clause-apart
-returns-clause-apart c =
+pub returns-else-spans-end-clause-apart : goal.returns-else-spans-end-clause-apart
+returns-else-spans-end-clause-apart c =
     let spans = c.args.spans.now in let end = c.loop-end.end in let merged = c.loop-end.merged in
-    let begins = elim c.loop-end-test.branch as (λ _. Begins merged.to (drop end spans)) [
-      | then-loop-end-test+else-spans-end w ↦
-          begins_behind merged.to end spans w.index-spans-end.result w.loop-end-test.true w.index-spans-end.is
-          w.if-spans-end.false
-      | else-loop-end-test w ↦ begins_none merged.to (drop end spans) (drop_all end spans w.loop-end-test.false)
-    ] in
-    joined_apart _ (take c.partition_point-front.result spans) merged (drop end spans) merged.within begins
-    c.loop-end.invariant.1.0
+    joined_apart _ (take c.partition_point-front.result spans) merged (drop end spans) merged.within
+    (begins_behind merged.to end spans c.index-spans-end.result c.loop-end-test.true c.index-spans-end.is
+    c.if-spans-end.false) c.loop-end.invariant.1.0
 
-pub returns-clause-positions : goal.returns-clause-positions
+pub returns-after-loop-end-clause-apart : goal.returns-after-loop-end-clause-apart
+returns-after-loop-end-clause-apart c =
+    let spans = c.args.spans.now in let end = c.loop-end.end in let merged = c.loop-end.merged in
+    joined_apart _ (take c.partition_point-front.result spans) merged (drop end spans) merged.within
+    (begins_none merged.to (drop end spans) (drop_all end spans c.loop-end-test.false)) c.loop-end.invariant.1.0
+
+pub returns-else-spans-end-clause-positions : goal.returns-else-spans-end-clause-positions
 unfolding Rattle.token_ranges.specs.Positions.Joins
-returns-clause-positions c = λ at.
+returns-else-spans-end-clause-positions c = λ at.
+    joined_positions (λ k. in_spans c.args.spans.now k || has_byte c.args.span k)
+    (take c.partition_point-front.result c.args.spans.now) c.loop-end.merged (drop c.loop-end.end c.args.spans.now)
+    c.loop-end.invariant.1.0 at
+
+pub returns-after-loop-end-clause-positions : goal.returns-after-loop-end-clause-positions
+unfolding Rattle.token_ranges.specs.Positions.Joins
+returns-after-loop-end-clause-positions c = λ at.
     joined_positions (λ k. in_spans c.args.spans.now k || has_byte c.args.span k)
     (take c.partition_point-front.result c.args.spans.now) c.loop-end.merged (drop c.loop-end.end c.args.spans.now)
     c.loop-end.invariant.1.0 at

@@ -37,11 +37,11 @@ returns-then-is_piece-clause-ok c =
     let i = c.cut_at-cut.result.from in let k = c.cut_at-cut.result.to in
     let cut : IsCut c.args.stretches.now from (from + length bytes) i k
     = subst (λ xs. IsCut xs from (from + length bytes) i k) c.as_slice-list.ensures c.cut_at-cut.ensures in
-    on_ok_weaker c.put_piece.result (λ put. piece_put c.args.stretches.now _ host from bytes i k cut ? put)
+    on_ok_weaker c.put_piece.result (λ put. piece_put c.args.stretches.now _ host from bytes i k cut c.if-cut.true put)
     c.put_piece.ensures.ok
 
 pub returns-then-is_piece-clause-each : goal.returns-then-is_piece-clause-each
 returns-then-is_piece-clause-each c =
     on_ok_weaker c.put_piece.result
     (λ put. piece_each c.args.stretches.now _ c.args.host c.args.from c.args.bytes.now c.cut_at-cut.result.from put
-    (and_left _ _ c.requires.stand) (c.is_piece.ensures ?) c.requires.within) c.put_piece.ensures.ok
+    (and_left _ _ c.requires.stand) (c.is_piece.ensures c.if-is_piece.true) c.requires.within) c.put_piece.ensures.ok
