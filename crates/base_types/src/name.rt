@@ -3,7 +3,6 @@ ghost use Rattle.std.specs.List.{list_any};
 ghost use Rattle.base_types.specs.Name.{is_before, is_name, is_separator};
 
 use crate::errors::NoMemory;
-use crate::items::Items;
 use crate::limits::NAME_BYTES_MAX;
 use crate::plain::Plain;
 use std::alloc::{AllocError, Global};
@@ -12,28 +11,32 @@ use thiserror::Error;
 
 /// The name of a user, a group, a fileset, an entry of a directory or a label: 1 to 60 bytes,
 /// without `/` and without the byte 0. Contracts see it as its bytes.
-#[derive(Debug, PartialEq)]
+#[derive(Debug)]
 pub struct Name {
-    bytes: Items<u8>,
+    // Its bytes, and zeros behind them.
+    bytes: [u8; NAME_BYTES_MAX],
+    length: usize,
 }
 
 impl Drop for Name {
     fn drop(self) {
-        let Name { bytes: _ } = self;
+        let Name {
+            bytes: _,
+            length: _,
+        } = self;
     }
 }
 
 impl Model for Name {
-    ghost use Rattle.std.specs.Prelude.{List, ℕ, IsTrue};
+    ghost use Rattle.std.specs.Prelude.{List, ℕ, ◌≤◌, take, IsTrue};
+    ghost use Rattle.base_types.specs.declared.limits.TheConstants.{NAME_BYTES_MAX};
     ghost use Rattle.base_types.specs.Name.{is_name};
 
     ghost Value = { List ℕ };
 
-    ghost view = { λ a. a.bytes };
+    ghost view = { λ a. take a.length a.bytes };
 
-    ghost invariant = { λ a. IsTrue (is_name a.bytes) };
-
-    ghost inverse = { λ bytes. record { bytes = bytes } };
+    ghost invariant = { λ a. (a.length ≤ NAME_BYTES_MAX) × IsTrue (is_name (take a.length a.bytes)) };
 }
 
 /// Why bytes are no name.
@@ -66,30 +69,55 @@ impl Name {
     }
 
     /// The name with these bytes.
-    pub fn new(alloc: Global, bytes: &[u8]) -> Result<Name, NameRefused>
+    pub fn new(_alloc: Global, bytes: &[u8]) -> Result<Name, NameRefused>
         ensures ok { IfOk result (λ name. name ≡ bytes.now) }
         ensures bad { IsErrOf result NameRefused.BadName ↔ (is_name bytes.now ≡ false) }
     {
         if !Name::accepts(bytes) {
             return Err(NameRefused::BadName);
         }
-        Ok(Name {
-            bytes: Items::from_vec(Vec::from_slice(alloc, bytes)?),
-        })
+        Ok(Name::of(bytes))
     }
 
     /// Whether this name comes before another, in the order of their bytes.
     pub fn is_before(&self, other: &Name) -> bool
         ensures { result ≡ is_before self.now other.now }
     {
-        self.bytes.as_slice().cmp(&other.bytes.as_slice()).is_lt()
+        self.as_bytes().cmp(&other.as_bytes()).is_lt()
     }
 
     pub fn as_bytes(&self) -> &[u8]
         ensures value { result.now ≡ self.now }
         ensures name { IsTrue (is_name self.now) }
     {
-        self.bytes.as_slice()
+        &self.bytes[..self.length]
+    }
+
+    // The name with these bytes.
+    fn of(bytes: &[u8]) -> Name
+        requires { IsTrue (is_name bytes.now) }
+        ensures { result ≡ bytes.now }
+    {
+        let mut all = [0; NAME_BYTES_MAX];
+        all[..bytes.len()].copy_from_slice(bytes);
+        Name {
+            bytes: all,
+            length: bytes.len(),
+        }
+    }
+}
+
+impl PartialEq for Name {
+    ghost use Rattle.std.proofs.Common.{rules};
+    ghost use Rattle.std.specs.Cmp.Rules.{comparing};
+    ghost use Rattle.base_types.specs.Name.{same_name};
+
+    ghost eq = { λ a b. same_name a b };
+
+    ghost laws = { Prim.search (comparing, rules) };
+
+    fn eq(&self, other: &Name) -> bool {
+        self.as_bytes() == other.as_bytes()
     }
 }
 
@@ -103,7 +131,8 @@ fn has_separator(bytes: &[u8]) -> bool
 impl Plain for Name {
     fn copy(&self) -> Result<Name, NoMemory> {
         Ok(Name {
-            bytes: self.bytes.to_items()?,
+            bytes: self.bytes,
+            length: self.length,
         })
     }
 }

@@ -11,3 +11,4 @@ pub mod ShownLaws
 pub mod Learning
 pub mod Parting
 pub mod Marked
+pub mod Alike

@@ -1,6 +1,7 @@
 -- Tokens that are held, in the order of their use.
-use Rattle.std.specs.Prelude.{◌≤◌, ℕ, Bool, true, false, ◌&&◌, not, if◌then◌else◌, List, [], ◌∷◌, ◌++◌, map, filter}
-use Rattle.std.specs.Prelude.{Option, None, Some, length}
+use Rattle.std.specs.Prelude.{◌≡◌, ◌≤◌, ℕ, Bool, true, false, ◌&&◌}
+use Rattle.std.specs.Prelude.{not, if◌then◌else◌, List, [], ◌∷◌, ◌++◌, map, filter}
+use Rattle.std.specs.Prelude.{Option, None, Some, length, All}
 use Rattle.std.specs.List.{list_any, find}
 use Rattle.std.specs.Option.{option_map_or}
 use Rattle.base_types.specs.Ids.{same_fid}
@@ -94,3 +95,11 @@ used_each (need ∷ needs) held = used_each needs (used need held)
 abbrev pub brought_all : List Token → List Held → List Held
 brought_all [] held = held
 brought_all (token ∷ tokens) held = brought token.id (brought_all tokens held)
+
+-- the same of the held tokens help to cover two needs
+abbrev pub AreAlike : Need → Need → List Held → Type 0
+AreAlike one other held = All (λ h. helps_cover one h.token ≡ helps_cover other h.token) held
+
+-- the same of these tokens are of a kind that helps to cover a need of one kind and of another
+abbrev pub AreAlikeFor : Kind → Kind → List Token → Type 0
+AreAlikeFor one other tokens = All (λ token. helps token.kind one ≡ helps token.kind other) tokens

@@ -5,15 +5,16 @@ ghost use Rattle.std.specs.List.{find};
 ghost use Rattle.std.specs.Option.{option_map};
 ghost use Rattle.token_types.specs.Covers.{Covers, CoversBetween, CoversKind};
 ghost use Rattle.host_cache.specs.Holding.{IsOnce, has_id, is_id, tokens_of, is_idle, last_of};
-ghost use Rattle.host_cache.specs.Holding.{is_status, used_each};
+ghost use Rattle.host_cache.specs.Holding.{is_status, used_each, AreAlike};
 ghost use Rattle.host_cache.specs.Files.{FileKey, file_key, same_key, parts_at, HasRoom, Grows, Learns, Puts};
 ghost use Rattle.host_cache.specs.Files.{without_token, left, told_under, told_by};
 ghost use Rattle.host_cache.specs.Seen.{seen, after_add, after_drop, after_write};
 ghost use Rattle.host_cache.specs.Seen.{after_length, after_set_use, after_used, of_key};
 
 use crate::file::{File, FileKey, Shown, file_key};
-use crate::held::{Held, is_status};
+use crate::held::{Held, are_alike_for, is_status};
 use crate::recent::Recent;
+use crate::same::is_same_need;
 use base_types::{Fid, Items, NoMemory};
 use std::alloc::Global;
 use std::collections::HashMap;
@@ -228,18 +229,53 @@ impl Cache {
         self.order.promote_all(file.first(count));
     }
 
-    /// Uses needs, one after the other. Where they are those that were marked last and nothing else changed the order
-    /// since, no token is looked at.
+    /// Uses needs, one after the other. Where the same tokens help to cover them as those that were marked last, and
+    /// nothing else changed the order since, none is moved.
     pub fn mark_all(&mut self, needs: &[Need])
         ensures { seen self.new ≡ record (seen self.old) { held = used_each needs.now self.old.held } }
     {
-        if self.order.is_marked(needs) {
+        if self.is_marked(needs) {
             return;
         }
         for need in needs {
             self.used(need);
         }
         self.order.note(needs);
+    }
+
+    // Whether the same tokens help to cover these needs as those that were marked last: then they change nothing.
+    fn is_marked(&self, needs: &[Need]) -> bool
+        ensures { result ≡ true → used_each needs.now self.now.held ≡ self.now.held }
+    {
+        let marked = self.order.marked();
+        marked.len() == needs.len() && self.are_alike(marked, needs)
+    }
+
+    // Whether the same tokens help to cover each two needs of two lists.
+    fn are_alike(&self, ones: &[Need], others: &[Need]) -> bool
+        requires { length ones.now ≡ length others.now }
+        ensures { result ≡ true → used_each others.now self.now.held ≡ used_each ones.now self.now.held }
+    {
+        for (index, one) in ones.iter().enumerate() {
+            if !self.is_alike(one, &others[index]) {
+                return false;
+            }
+        }
+        true
+    }
+
+    // Whether the same tokens help to cover two needs.
+    fn is_alike(&self, one: &Need, other: &Need) -> bool
+        ensures { result ≡ true → AreAlike one.now other.now self.now.held }
+    {
+        is_same_need(one, other) || self.is_alike_at(one, other)
+    }
+
+    // Whether two needs are of one file, and the same of its tokens help to cover them.
+    fn is_alike_at(&self, one: &Need, other: &Need) -> bool
+        ensures { result ≡ true → AreAlike one.now other.now self.now.held }
+    {
+        one.fid == other.fid && are_alike_for(self.tokens_at(one.fid), one.kind, other.kind)
     }
 
     /// How many tokens are held. It takes no memory.

@@ -1,6 +1,6 @@
 //! Tokens that are held, and which of them help to cover a need.
-ghost use Rattle.std.specs.Prelude.{◌≡◌, ◌++◌, filter, length, not};
-ghost use Rattle.host_cache.specs.Holding.{kind_has_byte, is_status, helps, helps_cover, helpers_first};
+ghost use Rattle.std.specs.Prelude.{◌≡◌, ◌++◌, filter, length, not, true};
+ghost use Rattle.host_cache.specs.Holding.{kind_has_byte, is_status, helps, helps_cover, helpers_first, AreAlikeFor};
 
 use token_types::{Kind, Need, Token};
 
@@ -55,6 +55,24 @@ fn helps(kind: Kind, needed: Kind) -> bool
         (Kind::Opening(kind), Kind::Opening(needed)) => kind == needed,
         _ => false,
     }
+}
+
+/// Whether the same of these tokens are of a kind that helps to cover a need of one kind and of another.
+pub(crate) fn are_alike_for(tokens: &[Token], one: Kind, other: Kind) -> bool
+    ensures { result ≡ true → AreAlikeFor one other tokens.now }
+{
+    for token in tokens {
+        if !is_alike_for(token.kind, one, other) {
+            return false;
+        }
+    }
+    true
+}
+
+fn is_alike_for(kind: Kind, one: Kind, other: Kind) -> bool
+    ensures { result ≡ true → helps kind one ≡ helps kind other }
+{
+    helps(kind, one) == helps(kind, other)
 }
 
 /// Brings the tokens that help to cover a need to the front, and counts them. The order among these stays, and that

@@ -7,7 +7,6 @@ ghost use Rattle.host_cache.specs.Holding.{tells_at, tokens_of, used_each};
 
 use crate::held::Held;
 use crate::order::Order;
-use crate::same::are_same_needs;
 use base_types::{Items, NoMemory};
 use std::alloc::Global;
 use std::marker::Model;
@@ -101,11 +100,11 @@ impl Recent {
         promote_all(&mut self.order, tokens);
     }
 
-    /// Whether these are the needs that were marked last: marked again, they change nothing.
-    pub(crate) fn is_marked(&self, needs: &[Need]) -> bool
-        ensures { result ≡ true → used_each needs.now self.now ≡ self.now }
+    /// The needs that were marked last: marked again, they change nothing.
+    pub(crate) fn marked(&self) -> &[Need]
+        ensures { used_each result.now self.now ≡ self.now }
     {
-        are_same_needs(self.marked.as_slice(), needs)
+        self.marked.as_slice()
     }
 
     /// Notes that these needs change nothing where they are marked again; where memory ran out it notes none.

@@ -1,25 +1,11 @@
-//! Whether two lists of needs are equal.
+//! Whether two needs are equal.
 ghost use Rattle.std.specs.Prelude.{◌≡◌, ◌↔◌, IsTrue};
 
 use base_types::{OpenKind, Span};
 use token_types::{Kind, Need};
 
-/// Whether two lists have the same needs, in the same order.
-pub(crate) fn are_same_needs(ones: &[Need], others: &[Need]) -> bool
-    ensures { IsTrue result ↔ (ones.now ≡ others.now) }
-{
-    if ones.len() != others.len() {
-        return false;
-    }
-    for (index, one) in ones.iter().enumerate() {
-        if !is_same_need(one, &others[index]) {
-            return false;
-        }
-    }
-    true
-}
-
-fn is_same_need(one: &Need, other: &Need) -> bool
+/// Whether two needs are equal.
+pub(crate) fn is_same_need(one: &Need, other: &Need) -> bool
     ensures { IsTrue result ↔ (one.now ≡ other.now) }
 {
     one.fid == other.fid && is_same_kind(&one.kind, &other.kind)

@@ -1,5 +1,6 @@
-ghost use Rattle.std.specs.Prelude.{◌≡◌, ◌↔◌, ◌<◌, ◌≤◌, ◌&&◌, min, max, nat_le, IsTrue, [], OnOk, OnErr, IfOk};
+ghost use Rattle.std.specs.Prelude.{◌≡◌, ◌↔◌, ◌<◌, ◌≤◌, ◌&&◌, min, max, length, nat_le, IsTrue, [], OnOk, OnErr, IfOk};
 ghost use Rattle.base_types.specs.declared.limits.TheConstants.{FILE_BYTES_MAX};
+ghost use Rattle.token_ranges.specs.Joints.{with_joint};
 ghost use Rattle.token_ranges.specs.Positions.{IsApart, Joins, Leaves, Misses, HasAll, StaysApart, AddsBetween};
 ghost use Rattle.std.specs.List.{list_any};
 
@@ -51,7 +52,8 @@ impl SpanSet {
         ensures err { OnErr result (self.new ≡ self.old) }
     {
         if !span.is_empty() {
-            self.spans = joined(self.spans.as_slice(), span, self.spans.alloc())?;
+            let joint = joint_of(self.spans.as_slice(), span);
+            put_joint(&mut self.spans, joint)?;
         }
         Ok(())
     }
@@ -101,13 +103,23 @@ fn has_around(spans: &[Span], span: Span) -> bool
         .any(|around| around.from <= span.from && span.to <= around.to)
 }
 
-/// The spans with the positions of another, which isn't empty.
+/// Where a span goes among others: in the place of those from `front` on and before `end`, as one with them.
+#[derive(Clone, Copy)]
+struct Joint {
+    front: usize,
+    end: usize,
+    merged: Span,
+}
+
+/// Where a span goes among others, which isn't empty.
 #[tactic(auto, unfolding(crate::specs::Positions::Joins))]
-fn joined(spans: &[Span], span: Span, alloc: Global) -> Result<Items<Span>, NoMemory>
+fn joint_of(spans: &[Span], span: Span) -> Joint
     requires apart { IsApart spans.now }
     requires filled { span.from < span.to }
-    ensures apart { IfOk result IsApart }
-    ensures positions { IfOk result (Joins spans.now span) }
+    ensures ordered { result.front ≤ result.end }
+    ensures within { result.end ≤ length spans.now }
+    ensures apart { IsApart (with_joint result spans.now) }
+    ensures positions { Joins spans.now span (with_joint result spans.now) }
 {
     let front = spans.partition_point(|next| next.to < span.from);
     let mut merged = span;
@@ -116,10 +128,38 @@ fn joined(spans: &[Span], span: Span, alloc: Global) -> Result<Items<Span>, NoMe
         merged = around(merged, spans[end]);
         end += 1;
     }
-    let mut done = Items::from_vec(Vec::with_capacity(alloc, spans.len().saturating_add(1))?);
-    done.extend(&spans[..front])?;
-    done.push(merged)?;
-    done.extend(&spans[end..])?;
+    Joint { front, end, merged }
+}
+
+/// Puts a span where it goes. It takes no memory where it is one with another, and no more than for one where it is one
+/// with none.
+fn put_joint(spans: &mut Items<Span>, joint: Joint) -> Result<(), NoMemory>
+    requires ordered { joint.front ≤ joint.end }
+    requires within { joint.end ≤ length spans.old }
+    ensures ok { OnOk result (spans.new ≡ with_joint joint spans.old) }
+    ensures err { OnErr result (spans.new ≡ spans.old) }
+{
+    if joint.end == joint.front {
+        return spans.insert(joint.front, joint.merged);
+    }
+    if joint.end == joint.front + 1 {
+        spans.set(joint.front, joint.merged);
+        return Ok(());
+    }
+    *spans = joined(spans.as_slice(), joint, spans.alloc())?;
+    Ok(())
+}
+
+/// The spans with one where it goes.
+fn joined(spans: &[Span], joint: Joint, alloc: Global) -> Result<Items<Span>, NoMemory>
+    requires ordered { joint.front ≤ joint.end }
+    requires within { joint.end ≤ length spans.now }
+    ensures { IfOk result (λ all. all ≡ with_joint joint spans.now) }
+{
+    let mut done = Items::from_vec(Vec::with_capacity(alloc, spans.len())?);
+    done.extend(&spans[..joint.front])?;
+    done.push(joint.merged)?;
+    done.extend(&spans[joint.end..])?;
     Ok(done)
 }
 

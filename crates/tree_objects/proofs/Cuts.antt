@@ -2,6 +2,7 @@
 use Rattle.std.proofs.Common.{◌≡◌, ℕ, zero, suc, ◌+◌, ◌-◌, ◌<◌, ◌≤◌, ◌==◌, nat_le, nat_lt, Bool, true, false, not}
 use Rattle.std.proofs.Common.{List, [], ◌∷◌, ◌++◌, length, filter, map, take, drop, get_or, max, Option, Some, None}
 use Rattle.std.proofs.Common.{append_assoc, refl, sym, ap, ◌∙◌, subst, arith}
+use Rattle.std.specs.Prelude.{insert}
 use Rattle.std.specs.List.{list_all, splice, AllWithin}
 use Rattle.std.specs.List.Sorted.{IsPartitionedBy}
 use Rattle.std.specs.Option.{option_map_or, option_or}
@@ -10,6 +11,7 @@ use Rattle.std.specs.declared.vec.IntoIter.{IntoIter}
 use Rattle.std.specs.Vec.Iter.{into_iter_items, into_iter_len, into_iter_steps}
 use Rattle.std.proofs.Math.Seq.{drop-nil}
 use Rattle.std.proofs.lemmas.List.{append-nil}
+use Rattle.std.proofs.lemmas.Bool.{le-leb, lt-ltb}
 use Rattle.std.proofs.lemmas.List.Elements.{filter-append}
 use Rattle.std.proofs.lemmas.List.Folds.{find-append}
 use Rattle.std.proofs.lemmas.List.Sorted.{IsPartitionedBy-leb, IsPartitionedBy-ltb}
@@ -18,13 +20,14 @@ use Rattle.std.proofs.lemmas.Iterator.Adapters.{YieldsList-from_vec}
 use Rattle.std.proofs.lemmas.Grind.{common_steps, flat_map-append}
 use Rattle.base_types.specs.Image.{byte_at}
 use Rattle.base_types.specs.declared.ids.HostId.{HostId}
+use Rattle.base_types.specs.declared.limits.TheConstants.{FILE_BYTES_MAX}
 use Rattle.tree_objects.specs.declared.content.Unsaved.{Unsaved}
 use Rattle.tree_objects.specs.declared.stretch.Stretch.{Stretch}
 use Rattle.tree_objects.specs.Changes.{written, unsaved_after}
 use Rattle.tree_objects.specs.Cuts.{IsCut}
 use Rattle.tree_objects.specs.Files.{unsaved_at, byte_over, bytes_over}
 use Rattle.tree_objects.specs.Positions.{positions_rise}
-use Rattle.tree_objects.specs.Stretches.{bytes_of, all_bytes, is_stretch, are_stretches}
+use Rattle.tree_objects.specs.Stretches.{bytes_of, all_bytes, is_stretch, are_stretches, piece_of}
 use Rattle.tree_objects.proofs.Observed.{and_left, and_right}
 use Rattle.tree_objects.proofs.Rising.{and_both, all_append, all_implied, rise_written, written_from, written_below}
 use Rattle.tree_objects.proofs.Pieces.{some_of, drop_more}
@@ -345,6 +348,24 @@ cut_written ss list next host from bytes i k cut w e =
   where
     regroup : (a x w y b : List Unsaved) → a ++ ((x ++ w ++ y) ++ b) ≡ (a ++ x) ++ w ++ (y ++ b)
     regroup a x w y b = simp append_assoc
+
+-- a piece is put where nothing is written over
+pub piece_put : (ss next : List Stretch) (host : HostId) (from : ℕ) (bytes : List ℕ) (i k : ℕ) → IsCut ss from
+    (from + length bytes) i k → i ≡ k → next ≡ insert ss i (piece_of host from bytes)
+    → all_bytes next ≡ unsaved_after (all_bytes ss) host from bytes
+piece_put ss next host from bytes i k cut same put =
+    let none : k - i ≡ 0 = omega (arith, same) in
+    cut_written ss (piece_of host from bytes ∷ []) next host from bytes i k cut
+    (sym (ap (λ n. unsaved_after (all_bytes (take n (drop i ss))) host from bytes) none))
+    (put ∙ ap (λ n. take i ss ++ piece_of host from bytes ∷ drop n ss) same)
+
+pub piece_each : (ss next : List Stretch) (host : HostId) (from : ℕ) (bytes : List ℕ) (i : ℕ) →
+    next ≡ insert ss i (piece_of host from bytes) → list_all is_stretch ss ≡ true → 0 < length bytes →
+    from + length bytes ≤ FILE_BYTES_MAX → list_all is_stretch next ≡ true
+piece_each ss next host from bytes i put each some within =
+    let one : is_stretch (piece_of host from bytes) ≡ true =
+    and_both _ _ (lt-ltb 0 (length bytes) some) (le-leb (from + length bytes) FILE_BYTES_MAX within) in
+    each_put ss (piece_of host from bytes ∷ []) next i i put each (and_both _ _ one refl)
 
 -- and the stretches stay as they must be
 pub write_stands : (ss next : List Stretch) (host : HostId) (from : ℕ) (bytes : List ℕ) → are_stretches ss ≡ true

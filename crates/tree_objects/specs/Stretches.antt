@@ -13,6 +13,10 @@ use Rattle.tree_objects.specs.Positions.{positions_rise, written}
 abbrev pub bytes_of : Stretch → List Unsaved
 bytes_of stretch = written stretch.writer stretch.from stretch.bytes
 
+-- the stretch of the bytes that a host writes from a position on
+abbrev pub piece_of : HostId → ℕ → List ℕ → Stretch
+piece_of host from bytes = record { from = from; writer = host; bytes = bytes }
+
 -- the bytes of all stretches
 abbrev pub all_bytes : List Stretch → List Unsaved
 all_bytes stretches = flat_map bytes_of stretches

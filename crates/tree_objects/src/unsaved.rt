@@ -1,4 +1,4 @@
-ghost use Rattle.std.specs.Prelude.{◌≡◌, ◌+◌, ◌-◌, ◌≤◌, ◌++◌, ◌==◌, ◌&&◌, not, true, [], slice_get, length, filter};
+ghost use Rattle.std.specs.Prelude.{◌≡◌, ◌+◌, ◌-◌, ◌<◌, ◌≤◌, ◌++◌, ◌==◌, ◌&&◌, not, true, [], slice_get, length, filter, insert};
 ghost use Rattle.std.specs.Prelude.{IfOk, OnOk, OnErr};
 ghost use Rattle.std.specs.List.{list_all};
 ghost use Rattle.base_types.specs.declared.limits.TheConstants.{FILE_BYTES_MAX};
@@ -6,14 +6,14 @@ ghost use Rattle.tree_objects.specs.Changes.{unsaved_after};
 ghost use Rattle.tree_objects.specs.Files.{bytes_over};
 ghost use Rattle.tree_objects.specs.Positions.{written};
 ghost use Rattle.tree_objects.specs.Stores.{is_stored};
-ghost use Rattle.tree_objects.specs.Stretches.{all_bytes, is_stretch, are_stretches, reaches};
+ghost use Rattle.tree_objects.specs.Stretches.{all_bytes, is_stretch, are_stretches, piece_of, reaches};
 
 use crate::bytes::{bytes_over, lengthen, put_each};
 use crate::content::Unsaved;
 use crate::parts::{cut_at, cut_of, put_between};
 use crate::splits::split_stored;
 use crate::stretch::{
-    Stretch, first_byte, push_above, push_below, push_written, reaches, write_in,
+    PIECE_BYTES, Stretch, first_byte, push_above, push_below, push_written, reaches, write_in,
 };
 use base_types::{HostId, Items, NoMemory, Plain, Span};
 use std::alloc::Global;
@@ -248,9 +248,42 @@ fn write_over(
     let alloc = stretches.alloc();
     let list = stretches.as_slice();
     let cut = cut_at(list, from as usize, from as usize + bytes.len());
+    if cut.from == cut.to && is_piece(bytes) {
+        return put_piece(stretches, cut.from, host, from, bytes);
+    }
     let written = written_over(alloc, &list[cut.from..cut.to], host, from, bytes)?;
     put_between(stretches, cut, written)?;
     Ok(())
+}
+
+// Whether bytes make one stretch.
+fn is_piece(bytes: &[u8]) -> bool
+    ensures { result ≡ true → 0 < length bytes.now }
+{
+    !bytes.is_empty() && bytes.len() <= PIECE_BYTES
+}
+
+// Puts the bytes that a host writes from a position on before the stretch at a place, as one stretch.
+fn put_piece(
+    stretches: &mut Items<Stretch>,
+    at: usize,
+    host: HostId,
+    from: u32,
+    bytes: &[u8],
+) -> Result<(), NoMemory>
+    requires { at ≤ length stretches.old }
+    ensures ok { OnOk result (stretches.new ≡ insert stretches.old at (piece_of host from bytes.now)) }
+    ensures err { OnErr result (stretches.new ≡ stretches.old) }
+{
+    let bytes = Items::from_slice(stretches.alloc(), bytes)?;
+    stretches.insert(
+        at,
+        Stretch {
+            from,
+            writer: host,
+            bytes,
+        },
+    )
 }
 
 // What a write leaves of stretches: those of their bytes that stand below it, the written ones, and those above it.

@@ -1,45 +1,9 @@
-use Rattle.std.proofs.Common.{rules, nat_lt, ◌≤◌, take, drop, subst, sym, ap, ◌∙◌, arith, List, ◌||◌}
-use Rattle.std.proofs.lemmas.List.{drop_all}
-use Rattle.std.proofs.lemmas.List.Sorted.{IsPartitionPoint-from_clause}
-use Rattle.base_types.specs.declared.span.Span.{Span}
-use Rattle.base_types.specs.Spans.{in_spans, has_byte}
-use Rattle.token_ranges.specs.Positions.{IsApart}
-use Rattle.token_ranges.proofs.Apart.{next_of, same_at}
-use Rattle.token_ranges.proofs.Joining.{parts_apart, starts, grows, with_next, joined_apart, joined_positions}
-use Rattle.token_ranges.proofs.Joining.{begins_behind, begins_none, put_together, Begins}
+use Rattle.token_ranges.proofs.Joining.{put_together}
+use Rattle.std.proofs.Common.{take}
 use Rattle.token_ranges.proofs.span_set.joined.Goals as goal
-use Rattle.token_ranges.proofs.span_set.joined.Goals.{then-loop-end-test+else-spans-end, else-loop-end-test}
 
-pub loop-end-init : goal.loop-end-init
-loop-end-init c =
-    let spans = c.args.spans.now in let i = c.partition_point-front.result in
-    let bound = c.partition_point-front.ensures.bound in
-    let point = IsPartitionPoint-from_clause (λ (next : Span). nat_lt next.to c.args.span.from) spans i
-    c.partition_point-front.ensures.partitioned (parts_apart c.args.span.from spans c.requires.apart)
-    (λ a r f' q. search rules) in
-    (bound, starts spans c.args.span i c.requires.apart c.requires.filled bound point.0 point.1)
-
-pub loop-end-preserved : goal.loop-end-preserved
-loop-end-preserved c =
-    let spans = c.args.spans.now in let next = c.index-spans-end-in-loop-end in
-    let up = subst (λ (one : Span). one.from ≤ c.loop-end.merged.to)
-    (sym (next.is ∙ same_at spans c.loop-end.end next.result c.index-spans-end.result c.loop-end-test.true))
-    c.if-spans-end.true in
-    let split = next_of spans next.result c.loop-end.end c.loop-end-test.true next.is in (
-      omega (arith, c.loop-end-test.true),
-      grows _ _ _ next.result _ _ up c.around-merged.ensures.from c.around-merged.ensures.to
-          (with_next _ _ _ _ _ _ split c.loop-end.invariant.1),
-    )
-
-pub returns-clause-apart : goal.returns-clause-apart
-returns-clause-apart c =
-    let spans = c.args.spans.now in let end = c.loop-end.end in let merged = c.loop-end.merged in
-    let begins = elim c.loop-end-test.branch as (λ _. Begins merged.to (drop end spans)) [
-      | then-loop-end-test+else-spans-end w ↦
-          begins_behind merged.to end spans w.index-spans-end.result w.loop-end-test.true w.index-spans-end.is
-          w.if-spans-end.false
-      | else-loop-end-test w ↦ begins_none merged.to (drop end spans) (drop_all end spans w.loop-end-test.false)
-    ] in
+pub returns : goal.returns
+returns c =
     rw (
       c.in_ok-extend-2.ensures.ok,
       c.in_ok-push.ensures.ok,
@@ -47,22 +11,4 @@ returns-clause-apart c =
       c.from_vec-done.ensures,
       c.in_ok-with_capacity.ensures.items,
     )
-    (subst IsApart (sym (put_together (take c.partition_point-front.result spans) spans merged end))
-    (joined_apart _ (take c.partition_point-front.result spans) merged (drop end spans) merged.within begins
-    c.loop-end.invariant.1))
-
-pub returns-clause-positions : goal.returns-clause-positions
-unfolding Rattle.token_ranges.specs.Positions.Joins
-returns-clause-positions c = λ at.
-    let front = take c.partition_point-front.result c.args.spans.now in let rest = drop c.loop-end.end
-    c.args.spans.now in
-    rw (
-      c.in_ok-extend-2.ensures.ok,
-      c.in_ok-push.ensures.ok,
-      c.in_ok-extend.ensures.ok,
-      c.from_vec-done.ensures,
-      c.in_ok-with_capacity.ensures.items,
-    )
-    (ap (λ (l : List Span). in_spans l at) (put_together front c.args.spans.now c.loop-end.merged c.loop-end.end)
-    ∙ joined_positions (λ k. in_spans c.args.spans.now k || has_byte c.args.span k) front c.loop-end.merged rest
-    c.loop-end.invariant.1 at)
+    (put_together (take c.args.joint.front c.args.spans.now) c.args.spans.now c.args.joint.merged c.args.joint.end)

@@ -7,10 +7,7 @@ use Rattle.host_cache.proofs.cache.Cache.mark_all.Goals as goal
 
 pub returns-then-is_marked : goal.returns-then-is_marked
 returns-then-is_marked c =
-    let needs = c.args.needs.now in
-    let again : used_each needs c.args.self.now.held ≡ c.args.self.now.held =
-    subst (λ (k : Kept). used_each needs k.held ≡ k.held) c.self.view_is (c.is_marked.ensures c.if-is_marked.true) in
-    λ i. record (seen c.args.self.now) { held = sym again i }
+    λ i. record (seen c.args.self.now) { held = sym (c.is_marked.ensures c.if-is_marked.true) i }
 
 pub loop-need-preserved : goal.loop-need-preserved
 loop-need-preserved c =
