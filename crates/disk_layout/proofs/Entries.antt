@@ -4,14 +4,14 @@ use Rattle.std.specs.Prelude.{Bool, true, false, ◌==◌}
 use Rattle.std.proofs.lemmas.Bool.{cases_lt}
 use Rattle.std.proofs.lemmas.Bool.Decides.{nat_tests}
 use Rattle.std.proofs.lemmas.List.{append-nil, get_or_append_left, get_or-append-add}
-use Rattle.base_types.specs.Image.{byte_at, bytes_from}
+use Rattle.base_types.specs.Image.{Holds, byte_at, bytes_from}
 use Rattle.base_outside.proofs.Image.{bytes_from-same}
 use Rattle.disk_layout.specs.declared.entry.Entry.{Entry}
 use Rattle.disk_layout.specs.declared.entry.Entry.TheVariants.{End}
 use Rattle.disk_layout.specs.declared.half.Half.{Half}
 use Rattle.disk_layout.specs.Places.{entry_start}
 use Rattle.disk_layout.specs.Until.{until_none}
-use Rattle.disk_layout.specs.Entry.{entry_of, entry_at, entries, gate_at, Spells, Fits, Stands, StandFrom, AreOpen, HasEntries, SameButBodies, SameButGates}
+use Rattle.disk_layout.specs.Entry.{entry_of, entry_at, entries, gate_at, Spells, Fits, Stands, StandFrom, AreOpen, HasEntries, SameButBodies, SameButEntries, SameButGates}
 use Rattle.disk_layout.proofs.Until.{until_none-none, until_none-known, until_none-some, until_none-same}
 use Rattle.disk_layout.proofs.Words.{closed_of, spelled_entry}
 
@@ -75,28 +75,59 @@ held_entries half held image le has =
 pub stands_below : (half : Half) (slot n : ℕ) (old new : List ℕ) → SameButBodies half.start slot n old new → (i : ℕ) (entry : Entry) → i < slot → Stands half entry old i → Stands half entry new i
 stands_below half slot n old new step i entry lt stands = stands_still half i old new (λ j from below. step.below (entry_start half.start i + j) (omega arith)) entry stands
 
--- what is written behind closed gates doesn't count
-pub unseen : (half : Half) (held : List Entry) (n : ℕ) (old c : List ℕ) → HasEntries half held old → SameButBodies half.start (length held) n old c → HasEntries half held c
-unseen half held n old c has step = record {
-  stand = λ k lt. stands_below half (length held) n old c step k _ lt (has.stand k lt);
-  opened = λ k lt. step.gates k ∙ has.opened k lt;
-  closed = λ i from below is. has.closed i from below (sym (step.gates i) ∙ is);
-}
+-- and so do bytes that are the same up to its end
+pub stands_under : (half : Half) (i : ℕ) (old new : List ℕ) → ((k : ℕ) → k < entry_start half.start (i + 1) → byte_at new k ≡ byte_at old k) → (entry : Entry) → Stands half entry old i → Stands half entry new i
+stands_under half i old new same entry stands = stands_still half i old new (λ j from below. same (entry_start half.start i + j) (omega arith)) entry stands
+
+-- an entry that was written whole
+pub stands_whole : (half : Half) (entry : Entry) (bytes image : List ℕ) (i : ℕ) → Fits half entry → Spells entry half.generation bytes → length bytes ≡ 1536
+    → Holds (entry_start half.start i) bytes image → Stands half entry image i × (gate_at half.start image i ≡ 1)
+stands_whole half entry [] image i fits spells size holds = absurd (omega (arith, size))
+stands_whole half entry (gate ∷ body) image i fits spells size holds =
+    let at = entry_start half.start i in
+    let all : bytes_from image at 1536 ≡ gate ∷ body = ap (bytes_from image at) (sym size) ∙ holds.inside in
+    let split : byte_at image at ∷ bytes_from image (at + 1) 1535 ≡ gate ∷ body = sym (bytes_from-cons image at 1535 1536 refl) ∙ all in
+    let head : byte_at image at ≡ gate = cc in
+    let rest : bytes_from image (at + 1) 1535 ≡ body = cc in
+    (stands_written half entry (gate ∷ body) image i fits spells (omega (arith, size)) rest, head ∙ spells.gate)
+
+-- entries that stand one part behind the other
+pub stand_append : (half : Half) (first : ℕ) (a b : List Entry) (image : List ℕ) → StandFrom half first a image → StandFrom half (first + length a) b image → StandFrom half first (a ++ b) image
+stand_append half first a b image one two k lt = let size = length-append a b in by (let e : k < length a + length b = omega (arith, lt, size) in e) (cases_lt k (length a))
+  where
+    by : k < length a + length b → (k < length a) ⊎ (length a ≤ k) → Stands half (get_or (a ++ b) k (End 0)) image (first + k)
+    by below (inl here) = subst (λ (e : Entry). Stands half e image (first + k)) (sym (get_or_append_left a b (End 0) k here)) (one k here)
+    by below (inr from) =
+        let m = k - length a in
+        let e : length a + m ≡ k = omega (arith, from) in
+        let f : first + length a + m ≡ first + (length a + m) = omega arith in
+        subst (λ (at : ℕ). Stands half (get_or (a ++ b) at (End 0)) image (first + at)) e
+        (subst (λ (x : Entry). Stands half x image (first + (length a + m))) (sym (get_or-append-add a b m (End 0)))
+        (subst (λ (at : ℕ). Stands half (get_or b m (End 0)) image at) f (two m (omega (arith, below, from)))))
+
+-- what is written behind the closed gate of the first doesn't count
+pub unseen : (half : Half) (held : List Entry) (n : ℕ) (old c : List ℕ) → length held ≤ 2048 → HasEntries half held old → SameButEntries half.start (length held) n old c → entries half c ≡ held
+unfolding entries
+unseen half held n old c le has step =
+    let m = length held in
+    until_none-known (entry_at half c) held (End 0) 0 (2048 - m) 2048 (omega arith)
+    (λ k lt. let e : 0 + k ≡ k = omega arith in ap (entry_at half c) e ∙ entry_open half c k _ (step.below (entry_start half.start k) (omega (arith, lt)) ∙ has.opened k lt)
+    (stands_under half k old c (λ j below. step.below j (omega (arith, lt, below))) _ (has.stand k lt)))
+    ∙ ap (λ (rest : List Entry). held ++ rest) (until_none-none (entry_at half c) (0 + m) (2048 - m)
+    (λ some. let e : 0 + m ≡ m = omega arith in ap (entry_at half c) e ∙ entry_closed half c m (λ is. has.closed m (omega arith) (omega arith) (sym step.gate ∙ is))))
+    ∙ append-nil held
 
 module _ (half : Half) (held news : List Entry) (old : List ℕ) (room : length held + length news ≤ 2048) (has : HasEntries half held old) (staged : List ℕ)
-    (step : SameButBodies half.start (length held) (length news) old staged) (stand : StandFrom half (length held) news staged)
+    (step : SameButEntries half.start (length held) (length news) old staged) (stand : StandFrom half (length held) news staged)
     (c : List ℕ) (gates : SameButGates half.start (length held) (length news) staged c) where
-  before : HasEntries half held staged
-  before = unseen half held (length news) old staged has step
-
   gate_below : (i : ℕ) → i < length held → gate_at half.start c i ≡ 1
-  gate_below i lt = gates.below (entry_start half.start i) (omega arith) ∙ before.opened i lt
+  gate_below i lt = gates.below (entry_start half.start i) (omega arith) ∙ step.below (entry_start half.start i) (omega arith) ∙ has.opened i lt
 
   shut : (i : ℕ) → length held + length news ≤ i → i < 2048 → gate_at half.start c i ≢ 1
-  shut i from below is = before.closed i (omega arith) below (sym (gates.above (entry_start half.start i) (omega arith)) ∙ is)
+  shut i from below is = has.closed i (omega arith) below (sym (step.above (entry_start half.start i) (omega arith)) ∙ sym (gates.above (entry_start half.start i) (omega arith)) ∙ is)
 
   still : (k : ℕ) → k < length held → Stands half (get_or held k (End 0)) c k
-  still k lt = stands_still half k staged c (gates.bodies k) _ (before.stand k lt)
+  still k lt = stands_still half k staged c (gates.bodies k) _ (stands_under half k old staged (λ j below. step.below j (omega (arith, lt, below))) _ (has.stand k lt))
 
   fresh : (k : ℕ) → k < length news → Stands half (get_or news k (End 0)) c (length held + k)
   fresh k lt = stands_still half (length held + k) staged c (gates.bodies (length held + k)) _ (stand k lt)

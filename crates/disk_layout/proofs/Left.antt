@@ -9,12 +9,12 @@ use Rattle.disk_layout.specs.declared.half.Half.{Half}
 use Rattle.disk_layout.specs.declared.superblock.Superblock.{Superblock}
 use Rattle.disk_layout.specs.Places.{half_start, entry_start, page_start, in_place, pages_end, pages_of, SameButBlocks, SameFront}
 use Rattle.disk_layout.specs.Superblock.{IsSuperblock}
-use Rattle.disk_layout.specs.Entry.{StandFrom, AreOpen, HasEntries, SameButBodies, SameButGates}
+use Rattle.disk_layout.specs.Entry.{StandFrom, AreOpen, HasEntries, SameButEntries, SameButGates}
 use Rattle.disk_layout.specs.Half.{used_of, used_half, IsLog, HasLog}
 use Rattle.disk_layout.specs.Pages.{recovered, pages_in, firsts, HasWhole, HasFirst, LeftFirst}
 use Rattle.disk_layout.proofs.Bytes.{number-same}
-use Rattle.disk_layout.proofs.Entries.{stands_still, held_entries, unseen, first_new, all_new}
-use Rattle.disk_layout.proofs.Slots.{same_bodies}
+use Rattle.disk_layout.proofs.Entries.{stands_still, unseen, first_new, all_new}
+use Rattle.disk_layout.proofs.Slots.{same_entries}
 use Rattle.disk_layout.proofs.Words.{superblock_same}
 use Rattle.disk_layout.proofs.Pages.{whole_recovered, first_recovered, recovered_at}
 
@@ -66,13 +66,12 @@ module _ (half : Half) (held news : List Entry) (image : List ℕ) (room : lengt
   log_left : (superblock : Superblock) → half.pages ≡ pages_of superblock.blocks → IsSuperblock superblock image → (c : List ℕ) → SameFront image c → used_half half.pages c ≡ Some half → HasLog superblock half c
   log_left superblock many is c front used = record { front = superblock_same superblock image c front is; used = subst (λ (n : ℕ). used_half n c ≡ Some half) many used }
 
-  -- entries behind closed gates don't count: the log is in stage 0
+  -- entries behind the closed gate of the first don't count: the log is in stage 0
   pub behind_one : (superblock : Superblock) → half.pages ≡ pages_of superblock.blocks → IsSuperblock superblock image → (d c : List ℕ) → SameButBlocks half.pages image d
-      → SameButBodies half.start (length held) (length news) d c → LeftFirst superblock half.generation held news image d c 0
+      → SameButEntries half.start (length held) (length news) d c → LeftFirst superblock half.generation held news image d c 0
   unfolding pages_in firsts
   behind_one superblock many is d c settled step =
       let at_d : HasEntries half held d = entries_stay half held image d low (omega arith) (λ at below. settled at (omega arith)) log.entries in
-      let at_c : HasEntries half held c = unseen half held (length news) d c at_d step in
       let headers = headers_bodies half (length held) (length news) d c room log.place step.below step.above in
       let headers_d : SameHeaders image d = record { zeroth = λ k from below. settled k (omega arith); first = λ k from below. settled k (omega arith) } in
       record {
@@ -83,21 +82,21 @@ module _ (half : Half) (held news : List Entry) (image : List ℕ) (room : lengt
           log = log_left superblock many is c (λ k lt. step.below k (let l = high in omega arith) ∙ settled k (omega arith)) (used_same half.pages d c headers ∙ used_same half.pages image d headers_d ∙ log.used);
           pages = λ p lt.
               let here : in_place c p ≡ in_place image p = page_same half.pages p d c (omega arith) (λ k from below. step.above k (let l = low in omega arith)) ∙ page_same half.pages p image d (omega arith) (λ k from below. settled k below) in
-              (λ j. recovered (held_entries half held c (omega arith) at_c j) (in_place c) p) ∙ recovered_at held (in_place c) (in_place image) p here ∙ whole_recovered held (in_place image) p whole.forced;
+              (λ j. recovered (unseen half held (length news) d c (omega arith) at_d step j) (in_place c) p) ∙ recovered_at held (in_place c) (in_place image) p here ∙ whole_recovered held (in_place image) p whole.forced;
           blocks = λ k from. step.above k (let l = low in omega arith);
         };
         blocks = λ some. absurd (omega arith);
       }
 
   pub behind_gates : (superblock : Superblock) → half.pages ≡ pages_of superblock.blocks → IsSuperblock superblock image → (may_leave : List ℕ → Type 0) → ((d : List ℕ) → may_leave d → SameButBlocks half.pages image d)
-      → (c : List ℕ) → After (SameButBodies half.start (length held) (length news)) may_leave c → HasFirst superblock half.generation held news image may_leave c
+      → (c : List ℕ) → After (SameButEntries half.start (length held) (length news)) may_leave c → HasFirst superblock half.generation held news image may_leave c
   behind_gates superblock many is may_leave settled c changed = (0, changed.0, changed.1, behind_one superblock many is changed.0 c (settled changed.0 changed.1) changed.2)
 
   -- between two forces a crash leaves none of the transactions that ended since
   pub between : (superblock : Superblock) → half.pages ≡ pages_of superblock.blocks → IsSuperblock superblock image → (c : List ℕ) → SameButBlocks half.pages image c → LeftFirst superblock half.generation held news image c c 0
-  between superblock many is c settled = behind_one superblock many is c c settled (same_bodies half.start (length held) (length news) c)
+  between superblock many is c settled = behind_one superblock many is c c settled (same_entries half.start (length held) (length news) c)
 
-  module _ (staged : List ℕ) (step : SameButBodies half.start (length held) (length news) image staged) (stand : StandFrom half (length held) news staged)
+  module _ (staged : List ℕ) (step : SameButEntries half.start (length held) (length news) image staged) (stand : StandFrom half (length held) news staged)
       (c : List ℕ) (gates : SameButGates half.start (length held) (length news) staged c) where
     above : (k : ℕ) → 6292992 ≤ k → byte_at c k ≡ byte_at image k
     above k from = let l = low in gates.above k (omega arith) ∙ step.above k (omega arith)

@@ -112,6 +112,17 @@ pub record SameButBodies (start first n : ℕ) (old new : List ℕ) : Type 0 whe
   pub below : (k : ℕ) → k < entry_start start first → byte_at new k ≡ byte_at old k
   pub above : (k : ℕ) → entry_start start (first + n) ≤ k → byte_at new k ≡ byte_at old k
 
+-- images that differ at most in n entries from a place on
+pub record SameButThese (start first n : ℕ) (old new : List ℕ) : Type 0 where
+  pub below : (k : ℕ) → k < entry_start start first → byte_at new k ≡ byte_at old k
+  pub above : (k : ℕ) → entry_start start (first + n) ≤ k → byte_at new k ≡ byte_at old k
+
+-- and not in the gate of the first
+pub record SameButEntries (start first n : ℕ) (old new : List ℕ) : Type 0 where
+  pub gate : gate_at start new first ≡ gate_at start old first
+  pub below : (k : ℕ) → k < entry_start start first → byte_at new k ≡ byte_at old k
+  pub above : (k : ℕ) → entry_start start (first + n) ≤ k → byte_at new k ≡ byte_at old k
+
 -- images that differ at most in the gates of n entries from a place on
 pub record SameButGates (start first n : ℕ) (old new : List ℕ) : Type 0 where
   pub bodies : (i j : ℕ) → 1 ≤ j

@@ -19,3 +19,4 @@ pub mod Placed
 pub mod Fresh
 pub mod Emptying
 pub mod Formatting
+pub mod Opening

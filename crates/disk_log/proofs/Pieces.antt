@@ -3,7 +3,7 @@ use Rattle.std.proofs.Common.{◌≡◌, ◌≤◌, ◌+◌, ◌-◌, ℕ, List,
 use Rattle.std.proofs.lemmas.List.{take_all, length-take, length-drop}
 use Rattle.disk_layout.specs.declared.entry.Entry.{Entry}
 use Rattle.disk_layout.specs.declared.half.Half.{Half}
-use Rattle.disk_layout.specs.Entry.{StandFrom, AreOpen, SameButBodies, SameButGates}
+use Rattle.disk_layout.specs.Entry.{StandFrom, AreOpen, SameButEntries, SameButGates}
 
 module _ (all : List Entry) (forced : ℕ) (le : forced ≤ length all) where
   pub piece_is : take (length all - forced) (drop forced all) ≡ drop forced all
@@ -18,9 +18,9 @@ module _ (all : List Entry) (forced : ℕ) (le : forced ≤ length all) where
   piece_size : length (take (length all - forced) (drop forced all)) ≡ length (drop forced all)
   piece_size = ap (λ (l : List Entry). length l) piece_is
 
-  pub bodies_as : (start : ℕ) (a b : List ℕ) → SameButBodies start forced (length (take (length all - forced) (drop forced all))) a b → SameButBodies start (length (take forced all)) (length (drop forced all)) a b
-  bodies_as start a b step =
-      subst (λ (n : ℕ). SameButBodies start n (length (drop forced all)) a b) held_size (subst (λ (n : ℕ). SameButBodies start forced n a b) piece_size step)
+  pub entries_as : (start : ℕ) (a b : List ℕ) → SameButEntries start forced (length (take (length all - forced) (drop forced all))) a b → SameButEntries start (length (take forced all)) (length (drop forced all)) a b
+  entries_as start a b step =
+      subst (λ (n : ℕ). SameButEntries start n (length (drop forced all)) a b) held_size (subst (λ (n : ℕ). SameButEntries start forced n a b) piece_size step)
 
   pub gates_as : (start : ℕ) (a b : List ℕ) → SameButGates start forced (length (take (length all - forced) (drop forced all))) a b → SameButGates start (length (take forced all)) (length (drop forced all)) a b
   gates_as start a b step =
