@@ -113,7 +113,7 @@ impl Plain for Content {
                 length,
             } => Content::File {
                 list: list.copy()?,
-                kept: kept.copy()?,
+                kept: kept.to_items()?,
                 unsaved: unsaved.copy()?,
                 length: *length,
             },
