@@ -221,7 +221,8 @@ module _ (server : ServerId) (p q : List Doing) (s : SameWords server p q) where
   pub taken_gives_to : (h : HostId) (claim : ReclaimOf) → HasTakenGives server p h claim
       → HasTakenGives server q h claim
   taken_gives_to h claim z o i low here =
-      let x = z o i low here in (x.0, (s.heard.took_of h o.fileset (GiveBack x.0)).0 x.1, x.2, x.3)
+      let x = z o i low (s.heard.slots o.fileset ∙ here) in
+      (x.0, (s.heard.took_of h o.fileset (GiveBack x.0)).0 x.1, x.2, x.3)
 
 pub stands_carried : (p q : List Doing) (x : Tables) → SameWords x.server p q → Stands p x → Stands q x
 stands_carried p q x s z = record {

@@ -241,7 +241,7 @@ word_grows : (server : ServerId) (p q : List Doing) (h : HostId) (n : ℕ) (b : 
     → IsWordOf server p h n b → IsWordOf server q h n b
 word_grows server p q h n b g c = record {
   blank = c.blank;
-  gone = λ o e. (let x = c.gone o e in (x.0, (g.heard.applied h o).0 x.1));
+  gone = λ o e. (let x = c.gone o e in (sym (g.heard.slots o.fileset) ∙ x.0, (g.heard.applied h o).0 x.1));
   reclaimed = λ r o e i. (g.heard.applied h o).0 (c.reclaimed r o e i);
   left_out = λ r o e i. (g.heard.given_up h o).0 (c.left_out r o e i);
 }
@@ -258,7 +258,7 @@ reply_grows server p q h n d g r = record {
   tokens = r.tokens;
   last = λ e m o t f. r.last e m o ((g.sent h e m (Done o)).1 t) f;
   live = (live_both server p q g.heard h).0 r.live;
-  here = r.here;
+  here = elim r.here [ inl none ↦ inl none | inr here ↦ inr (sym (g.heard.slots d.fileset) ∙ here) ];
 }
 
 pub early_grows : (server : ServerId) (p q : List Doing) (a : Doing) → Grows server p q → IsEarly server p a

@@ -1,12 +1,14 @@
 -- A server that is settled stays so through a doing that changes none of its words.
-use Rattle.std.proofs.Common.{ℕ, List, [], ◌∷◌, inl, inr}
+use Rattle.std.proofs.Common.{ℕ, List, [], ◌∷◌, ◌∙◌, inl, inr}
 use Rattle.base_types.specs.declared.ids.HostId.{HostId}
 use Rattle.base_types.specs.declared.ids.ServerId.{ServerId}
 use Rattle.message_types.specs.declared.giving.Give.{Give}
 use Rattle.message_types.specs.declared.giving.Reclaim.{Reclaim as ReclaimOf}
 use Rattle.message_types.specs.declared.message.Body.TheVariants.{GiveBack, Reclaim}
 use Rattle.token_types.specs.declared.token.Token.{Token}
-use Rattle.run_rules.specs.Doings.{Doing, Granted, HasReclaimed, IsLive, Pinned, TakesOf, TookNow}
+use Rattle.run_rules.specs.Doings.{Doing, Granted, HasReclaimed, IsLive, Pinned, TakesOf, TookNow, slot_of}
+use Rattle.run_tokens.specs.Unmoved.{MovesOne}
+use Rattle.run_tokens.proofs.Unmoved.{slot_on}
 use Rattle.run_rules.specs.ServerMay.{IsAskedBack}
 use Rattle.run_rules.specs.ServerTokens.{HasTakenGives}
 use Rattle.run_rules.specs.Wants.{CanDecide, CanGrant, CanRefuse, IsQueued, IsQueuedBefore}
@@ -63,10 +65,10 @@ module _ (past : List Doing) (a : Doing) (x : Tables) (s : Stands past x) (c : H
 
 -- that of a fileset was taken in this epoch, if no give-back is taken now
 pub all_back : (server : ServerId) (past : List Doing) (a : Doing) (h : HostId) (claim : ReclaimOf)
-    → ((g : Give) → TakesOf server past a h g.fid.fileset (GiveBack g) → ⊥)
+    → (MovesOne a → ⊥) → ((g : Give) → TakesOf server past a h g.fid.fileset (GiveBack g) → ⊥)
     → HasTakenGives server (a ∷ past) h claim → HasTakenGives server past h claim
-all_back server past a h claim none all o m n is =
-    let p = all o m n is in
+all_back server past a h claim still none all o m n is =
+    let p = all o m n (slot_on a o.fileset (slot_of server past o.fileset) still ∙ is) in
     elim p.1 [
       | inl q ↦ absurd (none p.0 (q.0, (rw p.2 q.1), q.2))
       | inr q ↦ (p.0, q.0, p.2, p.3)
@@ -83,7 +85,7 @@ claims_still server past a c ans none h n claim took never live all =
     let was = took_back took in
     none h n claim was (λ r. never (reclaimed_still past a c h r)) (live_was past a c h (took_listed past h n
     (Reclaim claim) was) live)
-    (all_back server past a h claim (λ g t. ans.gives h g.fid.fileset g t) all)
+    (all_back server past a h claim c.still (λ g t. ans.gives h g.fid.fileset g t) all)
   where
     took_back : TookNow (a ∷ past) h n (Reclaim claim) → TookNow past h n (Reclaim claim)
     took_back (inl p) = absurd (ans.claims h n claim p)
