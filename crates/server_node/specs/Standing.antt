@@ -143,9 +143,9 @@ module _ {S : Type 0} (tells : Type 0) (view : S → View) where
     pub served : HasServed old new
     pub store : fault ≡ StoreFailed → HasFailed old new
 
--- A store keeps what its server keeps by the rules after its own steps, and then what was done for requests that it
--- hasn't answered: for messages that were given to it and that none of these steps took, and for those of the wants
--- that wait behind them.
+-- A store keeps what its server keeps by the rules after its own steps, and then acts for requests that it hasn't
+-- answered, or by which it begins a newer epoch: for messages that were given to it and that none of these steps took,
+-- and for those of the wants that wait behind them.
 pub record HasDoneMore (run : Beginning) (server : ServerId) (own : List Step) (given : List Message)
     (state : StoreState) : Type 0 where
   pub kept : StoreState

@@ -103,9 +103,10 @@ pub record KeepsMore (script : Script) (start : Tree) (journal : Journal) (serve
       (appended more (own_in journal server))
   pub keeps : KeepsOf (filesets_kept start server (appended more (own_in journal server))) state
 
--- A store keeps what its server keeps by the rules after all its steps in a journal from this tree, and then what was
--- done for requests that it hasn't answered there: for messages that came to it and that none of these steps took, each
--- of which was sent in the journal, and for those of the wants that wait behind them.
+-- A store keeps what its server keeps by the rules after all its steps in a journal from this tree, and then acts for
+-- requests that it hasn't answered there, or by which it begins a newer epoch: for messages that came to it and that
+-- none of these steps took, each of which was sent in the journal, and for those of the wants that wait behind them. In
+-- what order these acts are, how often each was done, and why one refuses a call, isn't said.
 pub record HasComeFrom (script : Script) (start : Tree) (journal : Journal) (server : ServerId) (state : StoreState)
     : Type 0 where
   pub given : List Message
@@ -113,8 +114,8 @@ pub record HasComeFrom (script : Script) (start : Tree) (journal : Journal) (ser
   pub more : HasDoneMore (beginning script start journal.epochs) server (own_in journal server) given state
 
 -- Each change that a server acknowledged in a journal from this tree is in its store: that keeps the server's steps in
--- the journal, and perhaps some more, and may be asked; or, where the server failed while it made more, behind those
--- what was done for requests that it hasn't answered.
+-- the journal, and perhaps some more, and may be asked; or, as where the server failed while it made more, behind those
+-- acts for requests that it hasn't answered, or by which it begins a newer epoch.
 abbrev pub HasKept : Script → Tree → Journal → ServerId → View → Type 0
 HasKept script start journal server view =
     (KeepsMore script start journal server view.state × view.ready)

@@ -160,10 +160,12 @@ fn drive_all<S: Store + Drop + Send, R: Threads + Wait + Sync, G: Gate + Sync>(
 /// is meant where memory runs out. It may wait for what never comes about.
 ///
 /// However it ended there is a journal so far: as far as the stores tell what they keep it is a run of the script in
-/// which what is due is done, and each change that was acknowledged in it is in its store, which has done beside them,
-/// where its server failed, only what requests ask that aren't answered there; and where all came to rest each store
-/// keeps what its server keeps by the rules after all its steps in it. Where the run came to no end it comes back
-/// beside the cause, but where memory lacks for it, and the cause is `Memory` then.
+/// which what is due is done, and each change that was acknowledged in it is in its store. Beside them that has done
+/// nothing or what further steps by its server's rules do; or, as where its server failed, acts for requests that aren't
+/// answered there, or by which the server begins a newer epoch: in what order, how often each, and why a call was
+/// refused, isn't said of these. Where all came to rest each store keeps what its server keeps by the rules after all
+/// its steps in it. Where the run came to no end the journal comes back beside the cause, but where memory lacks for it,
+/// and the cause is `Memory` then.
 pub fn run_hosts<S: Store + Drop + Send, R: Threads + Wait + Sync, G: Gate + Sync>(
     rt: &R,
     alloc: Global,

@@ -218,8 +218,8 @@ pub record HasRecordSo (roster : Roster) (number : ℕ) (P : StoreState → Type
 
 -- A server's disk has a record in which is each change that the server acknowledged in a journal from this tree: it
 -- keeps what the server keeps by the rules after all its steps there, and perhaps some more, and so does whatever a
--- crash right after leaves; or, where the server failed while it made more, it keeps those, and then what was done for
--- requests that the server hasn't answered there.
+-- crash right after leaves; or, as where the server failed while it made more, it keeps those, and then acts for
+-- requests that the server hasn't answered there, or by which it begins a newer epoch.
 abbrev pub IsKeptSoFar : Script → Tree → Journal → ℕ → View → Type 0
 IsKeptSoFar script start journal number disk =
     ((c : List ℕ) → (c ≡ disk.image) ⊎ disk.may_leave c
@@ -252,8 +252,7 @@ pub record HasGoneSoFar {D : Type 0} (view : D → View) (script : Script) (stat
 -- What became of disks over which hosts and servers ran a script, or began to: they can from the tree that the disks
 -- held. What an earlier run left of moves was settled and finished, each server began the run, and then it did some
 -- acts of its own (there are such acts, which ∥ ∥₁ says). What they come to is told by what happened so far, however
--- the
--- run ended, and also where memory ran out; and where it went to its end, by the tree that the disks keep then.
+-- the run ended, and also where memory ran out; and where it went to its end, by the tree that the disks keep then.
 pub record GoByHosts {D : Type 0} (view : D → View) (script : Script) (outcome : Outcome) (olds news : List D)
     : Type 0 where
   pub start : Tree

@@ -50,9 +50,10 @@ use std::thread::Threads;
 /// it, each disk has the record that the acts with which its server began the run, and then some of its own, made of
 /// what it had, and a crash leaves the same as above, or what the first of these made and perhaps some of one batch
 /// more. However that ended, also where memory ran out, there is a run so far, by the rules, and all that a server
-/// acknowledged in it is on its disk, durably unless that server failed, and then with nothing else than what was done
-/// for requests that it hasn't answered; at `Stuck` no more. Where the disks weren't all opened, each that isn't blank
-/// has the record that it had.
+/// acknowledged in it is on its disk. Beside it there is nothing or what further steps by the server's rules did, and
+/// all that durably; or, as where that server failed, acts for requests that it hasn't answered, or by which it begins a
+/// newer epoch, as the disk stands: in what order, how often each, and why a call was refused, isn't said of these. At
+/// `Stuck` there is no more. Where the disks weren't all opened, each that isn't blank has the record that it had.
 ///
 /// The status is `NoCommand` exactly where the words aren't in the grammar, and then the usage line is written, and
 /// nothing is called; `NoInput` only where the source's count of faults rose, and then `refused: read fault` is
