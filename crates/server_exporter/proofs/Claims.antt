@@ -263,16 +263,18 @@ may_ready server p q s h ts m = record {
   moves = m.moves;
   took = (s.heard.took h m.moves (Reclaim m.claim)).0 m.took;
   waited = λ o i some here.
-      (let g = m.waited o i some here in (g.0, (s.heard.took_of h o.fileset (GiveBack g.0)).0 g.1, g.2, g.3));
+      (let g = m.waited o i some (s.heard.slots o.fileset ∙ here) in
+      (g.0, (s.heard.took_of h o.fileset (GiveBack g.0)).0 g.1, g.2, g.3));
   sound = λ t i. (let z = m.sound t i in (
     z.0,
     z.1,
-    z.2,
+    (z.2.0, z.2.1, z.2.2, sym (s.heard.slots z.2.0.fileset) ∙ z.2.3),
     (λ u. z.3 ((s.heard.given_up h t.id).1 u)),
     (λ k. z.4 (k.0, (s.granted k.0).1 k.1, k.2)),
   ));
   whole = λ t i here up is.
-      m.whole t i here (λ u. up ((s.heard.given_up h t.id).0 u)) (λ k. is (k.0, (s.granted k.0).0 k.1, k.2));
+      m.whole t i (here.0, here.1, here.2, s.heard.slots here.0.fileset ∙ here.3)
+      (λ u. up ((s.heard.given_up h t.id).0 u)) (λ k. is (k.0, (s.granted k.0).0 k.1, k.2));
   apart = m.apart;
 }
 

@@ -134,8 +134,9 @@ module _ (server : ServerId) (cause : Cause) (past : List Doing) (h : HostId) (c
 
   given : (m : Made) → IsWaiting m → HasTakenGives m.tables.server (said_in cause past m.draft) h claim
   given m z = subst (λ (v : ServerId). HasTakenGives v (said_in cause past m.draft) h claim) (sym z.server_is)
-      (λ o i some here. (let g = taken o i some here in
-      (g.0, ((said_heard server cause past m.draft z.granting.none).took_of h o.fileset (GiveBack g.0)).0 g.1, g.2, g.3)))
+      (λ o i some here. (let s = said_heard server cause past m.draft z.granting.none in
+      let g = taken o i some (s.slots o.fileset ∙ here) in
+      (g.0, (s.took_of h o.fileset (GiveBack g.0)).0 g.1, g.2, g.3)))
 
   has_its : (m : Made) → IsWaiting m → In its m.tables.recovering.claims
       → has_all m.tables.recovering.taken m.tables.server h claim ≡ true

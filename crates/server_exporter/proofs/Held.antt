@@ -193,7 +193,7 @@ module _ (server : ServerId) (cause : Cause) (tree : Tree) (past : List Doing) (
         tokens = refl;
         last = λ e n o t f. last e n o ((grown.sent w.host e n (Done o)).1 t) f;
         live = (live_both server said behind grown.heard w.host).0 (stands.wants.live w waits);
-        here = here;
+        here = elim here [ inl none ↦ inl none | inr it ↦ inr (sym (grown.heard.slots c.fileset) ∙ it) ];
       }
 
       epoch_is : x.hosts.epoch ≡ epoch behind
