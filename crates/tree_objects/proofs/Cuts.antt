@@ -1,22 +1,17 @@
 -- A part of the stretches in which all bytes of a span stand, and what is put in its place.
 use Rattle.std.proofs.Common.{◌≡◌, ℕ, zero, suc, ◌+◌, ◌-◌, ◌<◌, ◌≤◌, ◌==◌, nat_le, nat_lt, Bool, true, false, not}
-use Rattle.std.proofs.Common.{List, [], ◌∷◌, ◌++◌, length, filter, map, take, drop, get_or, max, Option, Some, None}
+use Rattle.std.proofs.Common.{List, [], ◌∷◌, ◌++◌, length, filter, take, drop, get_or, max, Option, Some, None}
 use Rattle.std.proofs.Common.{append_assoc, refl, sym, ap, ◌∙◌, subst, arith}
 use Rattle.std.specs.Prelude.{insert}
 use Rattle.std.specs.List.{list_all, splice, AllWithin}
 use Rattle.std.specs.List.Sorted.{IsPartitionedBy}
 use Rattle.std.specs.Option.{option_map_or, option_or}
-use Rattle.std.specs.Iterator.{Drains}
-use Rattle.std.specs.declared.vec.IntoIter.{IntoIter}
-use Rattle.std.specs.Vec.Iter.{into_iter_items, into_iter_len, into_iter_steps}
 use Rattle.std.proofs.Math.Seq.{drop-nil}
 use Rattle.std.proofs.lemmas.List.{append-nil}
 use Rattle.std.proofs.lemmas.Bool.{le-leb, lt-ltb}
 use Rattle.std.proofs.lemmas.List.Elements.{filter-append}
 use Rattle.std.proofs.lemmas.List.Folds.{find-append}
 use Rattle.std.proofs.lemmas.List.Sorted.{IsPartitionedBy-leb, IsPartitionedBy-ltb}
-use Rattle.std.proofs.lemmas.Iterator.{items_from_drains}
-use Rattle.std.proofs.lemmas.Iterator.Adapters.{YieldsList-from_vec}
 use Rattle.std.proofs.lemmas.Grind.{common_steps, flat_map-append}
 use Rattle.base_types.specs.Image.{byte_at}
 use Rattle.base_types.specs.declared.ids.HostId.{HostId}
@@ -299,16 +294,6 @@ part_shows kept ss from to i k cut =
     ∙ find-append (λ byte. byte.at == p) m b
     ∙ ap (λ o. option_or (unsaved_at m p) o) (none_below b to p cut.above (omega (arith, l, u)))
     ∙ or_nothing (unsaved_at m p)))
-
--- what an iterator over a list yields is that list
-map_same : {X : Type 0} (xs : List X) → map (λ y. y) xs ≡ xs
-map_same [] = refl
-map_same (x ∷ xs) = ap (λ ys. x ∷ ys) (map_same xs)
-
-pub yields_all : {Z : Type 0} (s : IntoIter Stretch Z) (all xs : List Stretch) → into_iter_items s ≡ all
-    → into_iter_len s ≡ length all → Drains into_iter_steps s xs → xs ≡ all
-yields_all s all xs e f d = sym (map_same xs) ∙ items_from_drains xs (d.1.0, d.1.1, λ _. (d.0, d.1.2))
-    (YieldsList-from_vec all e f)
 
 -- below a lesser position, and from a later one on
 lt_later : (a b x : ℕ) → a ≤ b → nat_lt x a ≡ true → not (nat_le b x) ≡ true

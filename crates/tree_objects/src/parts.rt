@@ -86,8 +86,25 @@ pub(crate) fn put_between(
 {
     let alloc = stretches.alloc();
     let mut list = mem::replace(stretches, Items::new(alloc)).into_vec();
-    let put = list.splice(cut.from..cut.to, written);
+    let put = put_in(&mut list, cut, written);
     *stretches = Items::from_vec(list);
-    put?;
+    put
+}
+
+fn put_in(list: &mut Vec<Stretch>, cut: Cut, mut written: Vec<Stretch>) -> Result<(), NoMemory>
+    requires ordered { cut.from ≤ cut.to }
+    requires within { cut.to ≤ length list.old.items }
+    ensures ok { OnOk result (list.new.items ≡ splice list.old.items cut.from cut.to written.items) }
+    ensures err { OnErr result (list.new.items ≡ list.old.items) }
+{
+    list.reserve(written.len())?;
+    let mut behind = list.split_off(cut.to)?;
+    list.truncate(cut.from);
+    let Ok(()) = list.append(&mut written) else {
+        unreachable!();
+    };
+    let Ok(()) = list.append(&mut behind) else {
+        unreachable!();
+    };
     Ok(())
 }

@@ -30,22 +30,27 @@ pub(crate) fn split_stored(
 {
     let mut stored = Vec::new(alloc);
     let mut left = Vec::new(alloc);
+    let mut near = 0;
     for stretch in stretches {
-        split_one(&mut stored, &mut left, stretch, host, spans, end)?;
+        near = split_one(&mut stored, &mut left, stretch, host, spans, near, end)?;
     }
     Ok((stored, left))
 }
 
-// Adds the parts of a stretch that become kept, and those that don't.
+// Adds the parts of a stretch that become kept, and those that don't. The search for the spans begins at the place
+// `near` among them; the result is the place at which that of the next stretch may begin.
 fn split_one(
     stored: &mut Vec<Stretch>,
     left: &mut Vec<Stretch>,
     stretch: &Stretch,
     host: HostId,
     spans: &[Span],
+    near: usize,
     end: usize,
-) -> Result<(), NoMemory>
-    requires { is_stretch stretch.now ≡ true }
+) -> Result<usize, NoMemory>
+    requires near { near ≤ length spans.now }
+    requires stretch { is_stretch stretch.now ≡ true }
+    ensures near { IfOk result (λ near. near ≤ length spans.now) }
     ensures stored { OnOk result (all_bytes stored.new.items
         ≡ all_bytes stored.old.items ++ filter (is_stored host spans.now end) (bytes_of stretch.now)) }
     ensures left { OnOk result (all_bytes left.new.items
@@ -54,14 +59,16 @@ fn split_one(
 {
     let count = stretch.bytes.len();
     let limit = limit_of(stretch, host, end);
+    let mut near = near;
     let mut done = 0;
     while done < count {
-        let part = part_at(spans, limit, stretch.from as usize + done);
+        let part = part_at(spans, near, limit, stretch.from as usize + done);
         let next = (part.to - stretch.from as usize).min(count);
         push_either(stored, left, stretch, done, next, part.stored)?;
+        near = part.near;
         done = next;
     }
-    Ok(())
+    Ok(near)
 }
 
 // Adds a part of a stretch to those that become kept, or to those that don't.
@@ -96,6 +103,8 @@ fn push_either(
 struct Part {
     stored: bool,
     to: usize,
+    // Where among the spans the search for the next part may begin.
+    near: usize,
 }
 
 // Below which position the bytes of a stretch become kept, as a host stores.
@@ -105,40 +114,79 @@ fn limit_of(stretch: &Stretch, host: HostId, end: usize) -> usize
     if stretch.writer == host { end } else { 0 }
 }
 
-// The part from a position on, as spans are stored below `end`.
+// The part from a position on, as spans are stored below `end`. The search begins at the place `near`.
 #[tactic(auto, using(crate::proofs::Stored::past_stored))]
-fn part_at(spans: &[Span], end: usize, at: usize) -> Part
-    requires { at < FILE_BYTES_MAX }
+fn part_at(spans: &[Span], near: usize, end: usize, at: usize) -> Part
+    requires within { at < FILE_BYTES_MAX }
+    requires near { near ≤ length spans.now }
     ensures more { at < result.to }
     ensures alike { (place : ℕ) → at ≤ place → place < result.to
         → (nat_lt place end && in_spans spans.now place) ≡ result.stored }
+    ensures near { result.near ≤ length spans.now }
 {
     if at < end {
-        part_below(spans, end, at)
+        part_below(spans, near, end, at)
     } else {
         Part {
             stored: false,
             to: FILE_BYTES_MAX as usize,
+            near,
         }
     }
 }
 
-#[tactic(auto, using(crate::proofs::Stored::next_more))]
-fn part_below(spans: &[Span], end: usize, at: usize) -> Part
+fn part_below(spans: &[Span], near: usize, end: usize, at: usize) -> Part
     requires within { at < FILE_BYTES_MAX }
+    requires near { near ≤ length spans.now }
     requires below { at < end }
     ensures more { at < result.to }
     ensures alike { (place : ℕ) → at ≤ place → place < result.to
         → (nat_lt place end && in_spans spans.now place) ≡ result.stored }
+    ensures near { result.near ≤ length spans.now }
+{
+    let near = reaching(spans, near, at);
+    match spans.get(near) {
+        Some(span) if has(span, at) => Part {
+            stored: true,
+            to: end.min(span.to as usize),
+            near,
+        },
+        _ => part_sought(spans, near, end, at),
+    }
+}
+
+// The first place from `near` on at which a span ends behind a position.
+fn reaching(spans: &[Span], near: usize, at: usize) -> usize
+    requires { near ≤ length spans.now }
+    ensures { result ≤ length spans.now }
+{
+    let mut near = near;
+    while near < spans.len() && spans[near].to as usize <= at {
+        near += 1;
+    }
+    near
+}
+
+#[tactic(auto, using(crate::proofs::Stored::next_more))]
+fn part_sought(spans: &[Span], near: usize, end: usize, at: usize) -> Part
+    requires within { at < FILE_BYTES_MAX }
+    requires near { near ≤ length spans.now }
+    requires below { at < end }
+    ensures more { at < result.to }
+    ensures alike { (place : ℕ) → at ≤ place → place < result.to
+        → (nat_lt place end && in_spans spans.now place) ≡ result.stored }
+    ensures near { result.near ≤ length spans.now }
 {
     match span_with(spans, at) {
         Some(span) => Part {
             stored: true,
             to: end.min(span.to as usize),
+            near,
         },
         None => Part {
             stored: false,
             to: next_of(spans, at),
+            near,
         },
     }
 }
@@ -147,10 +195,13 @@ fn part_below(spans: &[Span], end: usize, at: usize) -> Part
 fn span_with(spans: &[Span], at: usize) -> Option<Span>
     ensures { result ≡ find (λ span. has_byte span at) spans.now }
 {
-    spans
-        .iter()
-        .copied()
-        .find(|span| span.from as usize <= at && at < span.to as usize)
+    spans.iter().copied().find(|span| has(span, at))
+}
+
+fn has(span: &Span, at: usize) -> bool
+    ensures { result ≡ has_byte span.now at }
+{
+    span.from as usize <= at && at < span.to as usize
 }
 
 // The first position behind `at` that spans begin at, and the end of the longest file where none begins there.

@@ -11,11 +11,15 @@ loop-done-init c = record {
   left = none_added (λ byte. not (is_stored c.args.host c.args.spans.now c.args.end byte)) c.args.stretch.now _;
   each = λ h. h;
   within = omega arith;
+  near = c.requires.near;
 }
 
 pub part_at-part-requires : goal.part_at-part-requires
-part_at-part-requires c = let within = within_of c.args.stretch.now c.requires in omega
-    (arith, within, c.loop-done-test.true, c.len-count.ensures)
+part_at-part-requires c = record {
+  within = let within = within_of c.args.stretch.now c.requires.stretch in omega
+      (arith, within, c.loop-done-test.true, c.len-count.ensures);
+  near = c.loop-done.invariant.near;
+}
 
 pub loop-done-preserved : goal.loop-done-preserved
 loop-done-preserved c =
@@ -40,6 +44,7 @@ loop-done-preserved c =
           (λ place value l h. ap not (alike place value l h)) c.in_ok-push_either.ensures.left inv.left;
       each = λ h. c.in_ok-push_either.ensures.each (inv.each h);
       within = u;
+      near = c.part_at-part.ensures.near;
     }
 
 pub returns-clause-stored : goal.returns-clause-stored

@@ -16,6 +16,7 @@ invariant-loop-done l = record {
       ≡ all_bytes l.fn.left.items ++ filter (λ byte. not (is_stored l.fn.host l.spans l.end byte)) (bytes_of l.stretch);
   each : list_all is_stretch l.fn.left.items ≡ true → list_all is_stretch l.left.items ≡ true;
   within : l.done ≤ length l.stretch.bytes;
+  near : l.near ≤ length l.spans;
 }
 
 abbrev pub decreases-loop-done : goal.decreases-loop-done

@@ -1,4 +1,4 @@
-use Rattle.std.proofs.Common.{◌≡◌, ◌++◌, true, drop, filter, not}
+use Rattle.std.proofs.Common.{◌≡◌, ◌≤◌, ◌++◌, true, length, drop, filter, not}
 use Rattle.std.specs.List.{list_all}
 use Rattle.tree_objects.specs.Stores.{is_stored}
 use Rattle.tree_objects.specs.Stretches.{all_bytes, is_stretch}
@@ -13,4 +13,5 @@ invariant-loop-stretch l = record {
       (all_bytes (drop l.stretch-index l.stretches)) ≡ filter (λ byte. not (is_stored l.host l.spans l.end byte))
       (all_bytes l.stretches);
   each : list_all is_stretch l.left.items ≡ true;
+  near : l.near ≤ length l.spans;
 }

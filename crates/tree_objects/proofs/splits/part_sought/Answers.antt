@@ -1,6 +1,6 @@
 use Rattle.std.proofs.Common.{◌<◌, sym, subst}
 use Rattle.tree_objects.proofs.Stored.{span_stored, span_more, between_stored}
-use Rattle.tree_objects.proofs.splits.part_below.Goals as goal
+use Rattle.tree_objects.proofs.splits.part_sought.Goals as goal
 
 pub returns-in-Some-clause-more : goal.returns-in-Some-clause-more
 returns-in-Some-clause-more c =
