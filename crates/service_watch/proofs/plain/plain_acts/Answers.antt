@@ -16,5 +16,5 @@ loop-count-preserved c =
       fit = λ state.
           subst (λ (n : ℕ). AllFit state (take n batch)) next
           (fit_next count batch act state less (c.loop-count.invariant.fit state)
-          (λ s. subst (λ (a : Act). Fits s a) c.index-batch-count.is (c.is_plain.ensures c.if-is_plain.true s)));
+          (λ s. subst (λ (a : Act). Fits s a) c.index-batch-count.is (c.is_plain.ensures.0 c.if-is_plain.true s)));
     })
