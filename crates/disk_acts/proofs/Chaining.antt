@@ -18,7 +18,7 @@ use Rattle.disk_anode.specs.declared.fault.NodeFault.{NodeFault}
 use Rattle.disk_acts.specs.Acts.{act_pages}
 use Rattle.disk_acts.specs.Records.{HasTables}
 use Rattle.disk_acts.specs.Steps.{MayStep, Steps, SaysNext, ServerIsSaid, HeldIsSaid, SlotIsPut, PutsSlot, AllSaid, beside_anodes}
-use Rattle.disk_acts.specs.Touched.{IsMade, other_touched}
+use Rattle.disk_acts.specs.Touched.{IsMade, other_touched, renews}
 use Rattle.disk_acts.specs.declared.touched.Before.{Before}
 use Rattle.disk_acts.proofs.Stepping.{beside_among, step_less, step_after, steps_then, steps_failed}
 use Rattle.disk_acts.proofs.Touching.{Touches, act_touches}
@@ -52,10 +52,10 @@ made_next tells view act before old next result l0 l1 l2 l3 l4 apart made server
     let third = (here told).anodes slots second in
     let kept = made.kept in
     let touched = act_touches old act made.is_act apart in
-    let by_other = subst (λ (n : ℕ). Touches before.slot n old.slots (act_done old act).state.slots) (sym kept.other) (subst (λ (n : ℕ). Touches n (other_touched old act) old.slots (act_done old act).state.slots) (sym kept.slot) touched) in
-    let touches = subst (λ (s : StoreState). Touches before.slot before.other old.slots s.slots) (sym made.made) by_other in
+    let by_other = subst (λ (n : ℕ). Touches (renews act) before.slot n old.slots (act_done old act).state.slots) (sym kept.other) (subst (λ (n : ℕ). Touches (renews act) n (other_touched old act) old.slots (act_done old act).state.slots) (sym kept.slot) touched) in
+    let touches = subst (λ (s : StoreState). Touches (renews act) before.slot before.other old.slots s.slots) (sym made.made) by_other in
     on_ok_weaker result
-    (λ (put : SlotIsPut view before.slot (held_at next.slots before.slot) slots l3 l4). made_now view before.slot before.other old next slots l0 l1 l2 l3 l4 touches has.1.says (server told) (beside told) (here told) put)
+    (λ (put : SlotIsPut view before.slot (held_at next.slots before.slot) slots l3 l4). made_now view (renews act) before.slot before.other old next slots l0 l1 l2 l3 l4 touches has.1.says (server told) (beside told) (here told) put)
     (puts told old made slots third (holds_anodes old slots (λ p. page_in (contents_of view l0) p) has.1.says))
 
 -- and that of a boot

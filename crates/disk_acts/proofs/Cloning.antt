@@ -1,11 +1,7 @@
 -- What a clone has in its slot.
-use Rattle.std.proofs.Common.{◌≡◌, ◌≤◌, ◌<◌, ℕ, zero, suc, ◌+◌, ◌-◌, List, [], ◌∷◌, length, map, set, take, refl, sym, subst, ◌∙◌, ap, arith, inl, inr, nat_lt, cond, Option, Some, None}
-use Rattle.std.specs.Prelude.{true, false, not, Result, Ok, Err, slice_get, is_none, unwrap_or, IfSome}
-use Rattle.std.specs.List.{position_or_len}
+use Rattle.std.proofs.Common.{◌≡◌, ◌<◌, ℕ, zero, suc, ◌+◌, ◌-◌, List, [], ◌∷◌, length, map, set, take, refl, sym, subst, ◌∙◌, ap, arith, Option, Some, None}
+use Rattle.std.specs.Prelude.{not, Result, Ok, Err, slice_get, unwrap_or, IfSome}
 use Rattle.std.specs.Option.{option_map, option_map_or}
-use Rattle.std.proofs.lemmas.Bool.Decides.{leb_tells}
-use Rattle.std.proofs.lemmas.Grind.{common_steps}
-use Rattle.std.proofs.lemmas.List.Sums.{prefix_len-le-length}
 use Rattle.base_types.specs.Outcomes.{either}
 use Rattle.base_types.specs.declared.ids.HostId.{HostId}
 use Rattle.base_types.specs.declared.ids.ServerId.{ServerId}
@@ -38,28 +34,8 @@ use Rattle.store_state.specs.declared.state.Stay.TheVariants as stays
 use Rattle.store_state.specs.declared.state.StoreState.{StoreState}
 use Rattle.disk_objects.specs.Objects.{anode_at, FitsContent, FitsObject, AreKept}
 use Rattle.disk_records.specs.Stored.{AreHeld}
+use Rattle.disk_acts.proofs.FreeSlot.{free_none}
 use Rattle.disk_acts.proofs.Touching.{room_slot}
-
--- a slot that is free has nothing
-free_first : (slots : List (Option Holding)) → free_slot slots ≡ position_or_len is_none slots
-free_first slots = by (prefix_len-le-length (λ slot. not (is_none slot)) slots)
-  where
-    by : position_or_len is_none slots ≤ length slots → free_slot slots ≡ position_or_len is_none slots
-    by h = elim (leb_tells (suc (position_or_len is_none slots)) (length slots)) as
-        (λ _. unwrap_or (cond (nat_lt (position_or_len is_none slots) (length slots)) (Some (position_or_len is_none slots)) None) (length slots) ≡ position_or_len is_none slots) [
-          | inl (e, k) ↦ (let l : nat_lt (position_or_len is_none slots) (length slots) ≡ true = grind (arith, common_steps, k) in rw l refl)
-          | inr (e, k) ↦ (let l : nat_lt (position_or_len is_none slots) (length slots) ≡ false = grind (arith, common_steps, k) in rw l (omega (arith, h, k)))
-        ]
-
-first_none : (slots : List (Option Holding)) → held_at slots (position_or_len is_none slots) ≡ None
-first_none [] = refl
-first_none (None ∷ slots) = refl
-first_none (Some holding ∷ slots) =
-    let n : 1 + position_or_len is_none slots ≡ suc (position_or_len is_none slots) = omega arith in
-    ap (held_at (Some holding ∷ slots)) n ∙ first_none slots
-
-pub free_none : (slots : List (Option Holding)) → held_at slots (free_slot slots) ≡ None
-free_none slots = ap (held_at slots) (free_first slots) ∙ first_none slots
 
 -- what was cloned
 pub record IsCloned (old : StoreState) (at : ℕ) (source : List ℕ) (is : Holding) : Type 0 where

@@ -1,5 +1,5 @@
 -- The anodes of a slot, once they were put.
-use Rattle.std.proofs.Common.{◌≡◌, ◌<◌, ◌≤◌, ℕ, zero, suc, ◌-◌, List, length, replicate, take, refl, sym, ◌∙◌, ap, subst, arith, Option, Some, None}
+use Rattle.std.proofs.Common.{◌≡◌, ◌<◌, ◌≤◌, ℕ, zero, suc, ◌-◌, List, length, map, replicate, take, refl, sym, ◌∙◌, ap, subst, arith, Option, Some, None}
 use Rattle.std.specs.Prelude.{true, false, not, Result, Ok, is_none, slice_get, unwrap_or, ◌&&◌}
 use Rattle.std.specs.Option.{option_map_or}
 use Rattle.std.proofs.lemmas.Bool.{false≢true}
@@ -14,8 +14,9 @@ use Rattle.tree_objects.specs.declared.content.Anode.{Anode}
 use Rattle.tree_objects.specs.Changes.{anode_changed}
 use Rattle.tree_filesets.specs.Founding.{unused_anode}
 use Rattle.tree_filesets.specs.Laws.{is_file_at}
+use Rattle.store_acts.specs.Acts.{act_done}
 use Rattle.store_acts.specs.declared.act.Act.{Act}
-use Rattle.store_acts.specs.declared.act.Act.TheVariants.{Do, Give, Left, Settle, Part}
+use Rattle.store_acts.specs.declared.act.Act.TheVariants.{Boot, Do, Give, Left, Settle, Part}
 use Rattle.store_state.specs.Giving.{content_given, held_given}
 use Rattle.store_state.specs.State.{held_at, is_of, is_writable, slot_so}
 use Rattle.store_state.specs.declared.state.Holding.{Holding}
@@ -32,9 +33,13 @@ use Rattle.disk_fileset.proofs.Changing.{on_ok_two}
 use Rattle.disk_records.specs.Stored.{AreHeld}
 use Rattle.disk_acts.specs.Acts.{act_pages, act_blocks}
 use Rattle.disk_acts.specs.Anodes.{IsAt, AreAt, replaced}
+use Rattle.disk_acts.specs.Seen.{seen_anode}
 use Rattle.disk_acts.specs.Steps.{SlotAnodes, HoldsAnodes, MayPutSlot, PutsSlot}
 use Rattle.disk_acts.specs.Touched.{renews, anodes_before, IsMade}
+use Rattle.disk_acts.specs.declared.seen.SeenAnode.{SeenAnode}
 use Rattle.disk_acts.specs.declared.touched.Before.{Before}
+use Rattle.disk_acts.proofs.Seeing.{AllTold}
+use Rattle.disk_acts.proofs.Touching.{HeldTold, act_touches}
 use Rattle.disk_acts.proofs.Stepping.{slot_among}
 use Rattle.disk_acts.proofs.Renewing.{held_replaced, at_before}
 use Rattle.disk_acts.proofs.Giving.{IsFileHeld, given_is, is_given, not_given, file_held, file_there, held_changed_to}
@@ -93,16 +98,29 @@ renews_blocks (Settle id) e = refl
 renews_blocks (Part from ship id moves at part) e = refl
 renews_blocks _ e = absurd (false≢true e)
 
-module _ {D : Type 0} (view : D → View) (act : Act) (before : Before) (next : StoreState) (log : Log D) (low : before.slot < 16) where
-  pub at_slot : renews act ≡ true → (old : StoreState) (slots : ℕ → List Anode) → IsMade old act before next → AnodesAre view slots log → HoldsAnodes old slots → AreAt before.slot before.anodes slots
+not_boot : (act : Act) → renews act ≡ true → act ≡ Boot → ⊥
+not_boot act on is = false≢true (ap renews (sym is) ∙ on)
+
+module _ {D : Type 0} (view : D → View) (act : Act) (before : Before) (next : StoreState) (log : Log D) (low : before.slot < 16) (holding : Holding) (held : held_at next.slots before.slot ≡ Some holding) where
+  -- what was seen tells what is held
+  told_held : renews act ≡ true → (old : StoreState) → IsMade old act before next → AllTold (anodes_before (held_at old.slots before.slot)) holding.fileset.anodes
+  told_held on old made =
+      let kept = made.kept in
+      let touched = act_touches old act made.is_act (not_boot act on) in
+      let told = subst (λ (n : ℕ). HeldTold (held_at old.slots n) (held_at (act_done old act).state.slots n)) (sym kept.slot) (touched.told on) in
+      let there : held_at (act_done old act).state.slots before.slot ≡ Some holding = (λ i. held_at (sym made.made i).slots before.slot) ∙ held in
+      subst (HeldTold (held_at old.slots before.slot)) there told
+
+  pub at_slot : renews act ≡ true → (old : StoreState) (slots : ℕ → List Anode) → IsMade old act before next → AnodesAre view slots log → HoldsAnodes old slots → AreAt before.slot before.anodes holding.fileset.anodes slots
   at_slot on old slots made keeps holds at lt =
       let kept = made.kept in
-      let same : before.anodes ≡ anodes_before (held_at old.slots before.slot) = kept.anodes on ∙ (λ i. anodes_before (held_at old.slots (sym kept.slot i))) in
-      subst (λ (list : List Anode). IsAt before.slot at list slots) (sym same) (at_before (held_at old.slots before.slot) (slots before.slot) at lt (holds before.slot low))
+      let same : before.anodes ≡ map seen_anode (anodes_before (held_at old.slots before.slot)) = kept.anodes on ∙ (λ i. map seen_anode (anodes_before (held_at old.slots (sym kept.slot i)))) in
+      subst (λ (list : List SeenAnode). IsAt before.slot at list holding.fileset.anodes slots) (sym same)
+      (at_before (held_at old.slots before.slot) (slots before.slot) holding.fileset.anodes at lt (told_held on old made) (holds before.slot low))
 
-  pub renewed_held : (holding : Holding) → renews act ≡ true → length holding.fileset.anodes ≤ 64 → (old : StoreState) (slots : ℕ → List Anode) → IsMade old act before next → AnodesAre view slots log → HoldsAnodes old slots
-      → AreAt before.slot before.anodes slots × AreHeld holding (replaced holding.fileset.anodes (slots before.slot))
-  renewed_held holding on few old slots made keeps holds = (at_slot on old slots made keeps holds, held_replaced holding (slots before.slot) (keeps.each before.slot low).count few)
+  pub renewed_held : renews act ≡ true → length holding.fileset.anodes ≤ 64 → (old : StoreState) (slots : ℕ → List Anode) → IsMade old act before next → AnodesAre view slots log → HoldsAnodes old slots
+      → AreAt before.slot before.anodes holding.fileset.anodes slots × AreHeld holding (replaced holding.fileset.anodes (slots before.slot))
+  renewed_held on few old slots made keeps holds = (at_slot on old slots made keeps holds, held_replaced holding (slots before.slot) (keeps.each before.slot low).count few)
 
 -- a give-back
 module _ {D : Type 0} (view : D → View) (act : Act) (before : Before) (next : StoreState) (log : Log D) (low : before.slot < 16) (holding : Holding) (held : held_at next.slots before.slot ≡ Some holding)

@@ -5,6 +5,8 @@ pub mod Freed
 pub mod Transacting
 pub mod Stepping
 pub mod Saying
+pub mod FreeSlot
+pub mod Seeing
 pub mod Touching
 pub mod Making
 pub mod Renewing

@@ -57,8 +57,8 @@ held_same was is list anodes are = record {
   rest = λ anode above few. are.rest anode (let e = ap length anodes in omega (arith, e, above)) few;
 }
 
-module _ {D : Type 0} (view : D → View) (slot other : ℕ) (old next : StoreState) (slots : ℕ → List Anode) (l0 l1 l2 l3 l4 : Log D)
-    (touches : Touches slot other old.slots next.slots) (says : SaysRecord old slots (λ p. page_in (contents_of view l0) p))
+module _ {D : Type 0} (view : D → View) (tells : Bool) (slot other : ℕ) (old next : StoreState) (slots : ℕ → List Anode) (l0 l1 l2 l3 l4 : Log D)
+    (touches : Touches tells slot other old.slots next.slots) (says : SaysRecord old slots (λ p. page_in (contents_of view l0) p))
     (server : ServerIsSaid view next l0 l1) (beside : HeldIsSaid view other (held_at next.slots other) l1 l2) (here : HeldIsSaid view slot (held_at next.slots slot) l2 l3)
     (put : SlotIsPut view slot (held_at next.slots slot) slots l3 l4) where
   abbrev at : Log D → ℕ → List ℕ

@@ -1,6 +1,7 @@
 -- The anodes of a slot, renewed one after another.
-use Rattle.std.proofs.Common.{◌≡◌, ◌<◌, ◌≤◌, ℕ, zero, suc, ◌+◌, ◌-◌, List, [], ◌∷◌, length, take, replicate, refl, sym, ◌∙◌, ap, subst, arith, Option, Some, None}
+use Rattle.std.proofs.Common.{◌≡◌, ◌<◌, ◌≤◌, ℕ, zero, suc, ◌+◌, ◌-◌, List, [], ◌∷◌, length, map, take, replicate, refl, sym, ◌∙◌, ap, subst, arith, Option, Some, None}
 use Rattle.std.specs.Prelude.{true, slice_get, is_none, unwrap_or}
+use Rattle.std.specs.Option.{option_map}
 use Rattle.base_types.specs.Lists.{changed_at}
 use Rattle.tree_filesets.specs.Founding.{unused_anode}
 use Rattle.tree_filesets.specs.WellFormed.{is_settled}
@@ -17,8 +18,11 @@ use Rattle.disk_fileset.proofs.EachAnode.{changed_to, slot_itself}
 use Rattle.disk_fileset.proofs.Twice.{slot_twice, anode_where}
 use Rattle.disk_records.specs.Stored.{AreHeld}
 use Rattle.disk_acts.specs.Anodes.{IsOne, IsAt, replaced, slot_replaced, renewed}
+use Rattle.disk_acts.specs.Seen.{seen_anode}
 use Rattle.disk_acts.specs.Steps.{SlotAnodes}
 use Rattle.disk_acts.specs.Touched.{anodes_before}
+use Rattle.disk_acts.specs.declared.seen.SeenAnode.{SeenAnode}
+use Rattle.disk_acts.proofs.Seeing.{AllTold, told_at}
 
 -- the first anodes of a slot renewed
 abbrev pub change_of : List Anode → ℕ → Anode → Anode
@@ -60,14 +64,14 @@ pub renewed_whole : (slot n : ℕ) (after : List Anode) (slots : ℕ → List An
 renewed_whole slot n after slots le = λ i. with_slot slot (all_replaced after n (slots slot) le i) slots
 
 -- the next one is as it was
-pub at_next : (slot n : ℕ) (before after : List Anode) (slots : ℕ → List Anode) → IsAt slot n before slots → IsAt slot n before (renewed_to slot after n slots)
+pub at_next : (slot n : ℕ) (before : List SeenAnode) (after : List Anode) (slots : ℕ → List Anode) → IsAt slot n before after slots → IsAt slot n before after (renewed_to slot after n slots)
 at_next slot n before after slots is =
     let back : n + 1 - 1 ≡ n = omega arith in
     let here = slot_here slots slot slot (changed_to (change_of after) n (slots slot)) refl in
     let same : anode_at (renewed_to slot after n slots slot) (n + 1) ≡ anode_at (slots slot) (n + 1) =
     (λ i. anode_at (here i) (n + 1)) ∙ (λ i. unwrap_or (slice_get (changed_to (change_of after) n (slots slot)) (back i)) unused_anode)
     ∙ (λ i. unwrap_or (rest_same (change_of after) n (slots slot) i) unused_anode) ∙ (λ i. unwrap_or (slice_get (slots slot) (sym back i)) unused_anode) in
-    subst (λ (a : Anode). IsOne (slice_get before n) a) (sym same) is
+    subst (λ (a : Anode). IsOne (slice_get before n) (slice_get after n) a) (sym same) is
 
 -- an anode that stays
 itself : (xs : List Anode) (n : ℕ) → changed_at xs n (λ a. a) ≡ xs
@@ -118,15 +122,31 @@ got_same (suc n) (suc at) x lt = got_same n at x (omega (arith, lt))
 at_place : (list : List Anode) (at : ℕ) (a : Anode) → slice_get list at ≡ Some a → anode_at list (at + 1) ≡ a
 at_place list at a e = let back : at + 1 - 1 ≡ at = omega arith in (λ i. unwrap_or (slice_get list (back i)) unused_anode) ∙ (λ i. unwrap_or (e i) unused_anode)
 
-pub at_before : (held : Option Holding) (list : List Anode) (at : ℕ) → at < 64 → SlotAnodes held list → IsOne (slice_get (anodes_before held) at) (anode_at list (at + 1))
-at_before None list at lt is =
-    let e : slice_get list at ≡ Some unused_anode = (λ i. slice_get (is i) at) ∙ got_same 64 at unused_anode lt in
-    subst (λ (o : Option Anode). IsOne o (anode_at list (at + 1))) (sym (got_same 64 at unused_anode lt)) (at_place list at unused_anode e)
-at_before (Some holding) list at lt is = by (slice_get holding.fileset.anodes at) refl
+got_seen : (xs : List Anode) (at : ℕ) (o : Option Anode) → slice_get xs at ≡ o → slice_get (map seen_anode xs) at ≡ option_map seen_anode o
+got_seen [] at o e = (λ i. option_map seen_anode (e i))
+got_seen (x ∷ xs) zero o e = (λ i. option_map seen_anode (e i))
+got_seen (x ∷ xs) (suc at) o e = got_seen xs at o e
+
+seen_one : (old after : List Anode) (at : ℕ) (a now : Anode) → AllTold old after → slice_get old at ≡ Some a → now ≡ a → IsOne (slice_get (map seen_anode old) at) (slice_get after at) now
+seen_one old after at a now told got is = subst (λ (o : Option SeenAnode). IsOne o (slice_get after at) now) (sym (got_seen old at (Some a) got)) (by (slice_get after at) refl)
   where
-    by : (o : Option Anode) → slice_get holding.fileset.anodes at ≡ o → IsOne o (anode_at list (at + 1))
-    by (Some a) e = at_place list at a (got_take (length holding.fileset.anodes) list at a ((λ i. slice_get (is.front i) at) ∙ e))
-    by None e = let past = none_past holding.fileset.anodes at e in is.rest (at + 1) (omega (arith, past)) (omega (arith, lt))
+    by : (o : Option Anode) → slice_get after at ≡ o → IsOne (Some (seen_anode a)) o now
+    by None k = tt
+    by (Some next) k = λ e. is ∙ sym (told_at old after at a next told got k (sym e))
+
+no_one : (old after : List Anode) (at : ℕ) (now : Anode) → slice_get old at ≡ None → is_none now.object ≡ true → IsOne (slice_get (map seen_anode old) at) (slice_get after at) now
+no_one old after at now none free = subst (λ (o : Option SeenAnode). IsOne o (slice_get after at) now) (sym (got_seen old at None none)) free
+
+pub at_before : (held : Option Holding) (list after : List Anode) (at : ℕ) → at < 64 → AllTold (anodes_before held) after → SlotAnodes held list
+    → IsOne (slice_get (map seen_anode (anodes_before held)) at) (slice_get after at) (anode_at list (at + 1))
+at_before None list after at lt told is =
+    let e : slice_get list at ≡ Some unused_anode = (λ i. slice_get (is i) at) ∙ got_same 64 at unused_anode lt in
+    seen_one (replicate 64 unused_anode) after at unused_anode (anode_at list (at + 1)) told (got_same 64 at unused_anode lt) (at_place list at unused_anode e)
+at_before (Some holding) list after at lt told is = by (slice_get holding.fileset.anodes at) refl
+  where
+    by : (o : Option Anode) → slice_get holding.fileset.anodes at ≡ o → IsOne (slice_get (map seen_anode holding.fileset.anodes) at) (slice_get after at) (anode_at list (at + 1))
+    by (Some a) e = seen_one holding.fileset.anodes after at a (anode_at list (at + 1)) told e (at_place list at a (got_take (length holding.fileset.anodes) list at a ((λ i. slice_get (is.front i) at) ∙ e)))
+    by None e = let past = none_past holding.fileset.anodes at e in no_one holding.fileset.anodes after at (anode_at list (at + 1)) e (is.rest (at + 1) (omega (arith, past)) (omega (arith, lt)))
 
 -- what is within the limits, with nothing unsaved, is whole
 pub tellable_whole : (content : Content) → is_settled content ≡ true → is_tellable content ≡ true → is_whole content ≡ true

@@ -1,6 +1,7 @@
 pub mod Records
 pub mod Acts
 pub mod Steps
+pub mod Seen
 pub mod Anodes
 pub mod Touched
 pub mod Laws

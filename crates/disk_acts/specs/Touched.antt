@@ -12,6 +12,7 @@ use Rattle.std.specs.Prelude.{
   Option,
   Some,
   None,
+  map,
   replicate,
 }
 use Rattle.std.specs.Option.{option_map_or}
@@ -40,6 +41,7 @@ use Rattle.store_state.specs.State.{is_here_as, is_of, is_writable, held_at, slo
 use Rattle.store_state.specs.declared.state.Holding.{Holding}
 use Rattle.store_state.specs.declared.state.StoreState.{StoreState}
 use Rattle.disk_acts.specs.Records.{HasTables}
+use Rattle.disk_acts.specs.Seen.{seen_anode}
 use Rattle.disk_acts.specs.declared.touched.Before.{Before}
 
 -- the name of the fileset that a call changes; none for a call about filesets themselves
@@ -110,7 +112,8 @@ pub record IsBefore (state : StoreState) (act : Act) (before : Before) : Type 0 
   pub other : before.other ≡ other_touched state act
   pub source : before.source ≡ source_touched state act
   pub given : before.gives ≡ gives state act
-  pub anodes : renews act ≡ true → before.anodes ≡ anodes_before (held_at state.slots (slot_touched state act))
+  pub anodes : renews act ≡ true
+      → before.anodes ≡ map seen_anode (anodes_before (held_at state.slots (slot_touched state act)))
 
 -- an act that is done now made the next store of one
 pub record IsMade (old : StoreState) (act : Act) (before : Before) (next : StoreState) : Type 0 where

@@ -1,11 +1,12 @@
 // The anodes of a slot, as an act leaves them.
 ghost use Rattle.std.specs.Prelude.{◌≡◌, ◌≤◌, ◌<◌, ◌+◌, ◌-◌, ◌*◌, true, IsTrue, IfSome, ⊤, length, slice_get};
-ghost use Rattle.tree_filesets.specs.WellFormed.{is_settled};
 ghost use Rattle.tree_objects.specs.declared.content.Anode.{Anode as Kept};
 ghost use Rattle.disk_objects.specs.Objects.{with_anode};
 ghost use Rattle.disk_fileset.specs.Slots.{is_whole, MayChange, TurnsInto, ChangesSlot};
 ghost use Rattle.disk_acts.specs.Anodes.{IsAt, AreAt, slot_replaced, renewed};
+ghost use Rattle.disk_acts.specs.Seen.{seen_content, seen_object, seen_anode};
 
+use crate::seen::{SeenAnode, SeenContent, SeenObject, is_settled};
 use base_types::{AccessEntry, AccessList, Disk, Items, Who};
 use disk_anode::NodeFault;
 use disk_fileset::{put_anode, vacate};
@@ -17,20 +18,6 @@ use tree_objects::{Anode, Content, Object};
 
 // Anodes of a slot.
 const ANODES: usize = 64;
-
-// Whether nothing of an object is unsaved.
-fn is_settled(content: &Content) -> bool
-    ensures { result ≡ is_settled content.now }
-{
-    match content {
-        Content::Dir { .. } => true,
-        Content::File {
-            unsaved,
-            length,
-            ..
-        } => unsaved.is_empty() && length.is_none(),
-    }
-}
 
 fn same_entry(was: &DirEntry, is: &DirEntry) -> bool
     ensures { result ≡ true → was.now ≡ is.now }
@@ -100,22 +87,12 @@ fn same_lists(was: &[AccessList], is: &[AccessList]) -> bool
     true
 }
 
-fn same_bytes(was: &[u8], is: &[u8]) -> bool
-    ensures { result ≡ true → was.now ≡ is.now }
+fn same_content(was: &SeenContent, is: &Content) -> bool
+    ensures { result ≡ true → was.now ≡ seen_content is.now }
 {
-    was == is
-}
-
-// Whether two contents are the same, of which nothing is unsaved.
-fn same_content(was: &Content, is: &Content) -> bool
-    ensures { result ≡ true → was.now ≡ is.now }
-{
-    if !is_settled(was) || !is_settled(is) {
-        return false;
-    }
     match (was, is) {
         (
-            Content::Dir { entries, lists },
+            SeenContent::Dir { entries, lists },
             Content::Dir {
                 entries: new_entries,
                 lists: new_lists,
@@ -125,26 +102,30 @@ fn same_content(was: &Content, is: &Content) -> bool
                 && same_lists(lists.as_slice(), new_lists.as_slice())
         }
         (
-            Content::File { list, kept, .. },
+            SeenContent::File {
+                list,
+                bytes,
+                settled,
+            },
             Content::File {
                 list: new_list,
-                kept: new_bytes,
+                kept,
                 ..
             },
-        ) => same_list(list, new_list) && same_bytes(kept.as_slice(), new_bytes.as_slice()),
+        ) => *bytes == kept.len() && *settled == is_settled(is) && same_list(list, new_list),
         _ => false,
     }
 }
 
-fn same_object(was: &Object, is: &Object) -> bool
-    ensures { result ≡ true → was.now ≡ is.now }
+fn same_object(was: &SeenObject, is: &Object) -> bool
+    ensures { result ≡ true → was.now ≡ seen_object is.now }
 {
     was.owner == is.owner && was.group == is.group && same_content(&was.content, &is.content)
 }
 
-// Whether two anodes are the same, of whose objects nothing is unsaved.
-fn same_anode(was: &Anode, is: &Anode) -> bool
-    ensures { result ≡ true → was.now ≡ is.now }
+// Whether an anode is seen as one was.
+fn same_anode(was: &SeenAnode, is: &Anode) -> bool
+    ensures { result ≡ true → was.now ≡ seen_anode is.now }
 {
     if was.unique != is.unique {
         return false;
@@ -195,22 +176,22 @@ fn replace<D: Disk>(
     put_anode(alloc, log, tx, slot, anode, kept)
 }
 
-// Puts an anode of a slot, counted from 0, where it differs from before. There is room for so many with objects.
+// Puts an anode of a slot, counted from 0, where it isn't seen as before. There is room for so many with objects.
 fn renew<D: Disk>(
     alloc: Global,
     log: &mut Log<D>,
     tx: &mut Tx,
     slot: u32,
     at: usize,
-    before: &Items<Anode>,
+    before: &Items<SeenAnode>,
     after: &Items<Anode>,
     room: &mut u32,
 ) -> Result<(), NodeFault>
     requires slot { slot < 16 }
     requires at { at < 64 }
-    requires may { MayChange D.tells D.view (IsAt slot at before.now) slot (72 * room.old) log.old tx.old }
+    requires may { MayChange D.tells D.view (IsAt slot at before.now after.now) slot (72 * room.old) log.old tx.old }
     ensures room { room.new ≤ room.old }
-    ensures kept { TurnsInto D.tells D.view (IsAt slot at before.now)
+    ensures kept { TurnsInto D.tells D.view (IsAt slot at before.now after.now)
         (with_anode slot (at + 1) (renewed (slice_get after.now at))) result log.old log.new }
     ensures changes { ChangesSlot D.tells D.view slot (72 * (room.old - room.new)) result
         log.old log.new tx.old tx.new }
@@ -230,19 +211,19 @@ fn renew<D: Disk>(
     }
 }
 
-// Puts the anodes of a slot that differ from before: the first are these, and the others are freed. There is room for
-// two with objects, as no act changes more.
+// Puts the anodes of a slot that aren't seen as before: the first are these, and the others are freed. There is room
+// for two with objects, as no act changes more.
 pub fn put_anodes<D: Disk>(
     alloc: Global,
     log: &mut Log<D>,
     tx: &mut Tx,
     slot: u32,
-    before: &Items<Anode>,
+    before: &Items<SeenAnode>,
     after: &Items<Anode>,
 ) -> Result<(), NodeFault>
     requires slot { slot < 16 }
-    requires may { MayChange D.tells D.view (AreAt slot before.now) slot 144 log.old tx.old }
-    ensures kept { TurnsInto D.tells D.view (AreAt slot before.now) (slot_replaced slot after.now) result
+    requires may { MayChange D.tells D.view (AreAt slot before.now after.now) slot 144 log.old tx.old }
+    ensures kept { TurnsInto D.tells D.view (AreAt slot before.now after.now) (slot_replaced slot after.now) result
         log.old log.new }
     ensures changes { ChangesSlot D.tells D.view slot 144 result log.old log.new tx.old tx.new }
 {

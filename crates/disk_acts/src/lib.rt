@@ -18,6 +18,7 @@ mod one;
 mod promises;
 mod room;
 mod running;
+mod seen;
 mod settling;
 mod touched;
 

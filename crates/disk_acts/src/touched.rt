@@ -1,10 +1,11 @@
 //! What is kept of a store before an act.
-ghost use Rattle.std.specs.Prelude.{◌≡◌, IfOk, replicate};
+ghost use Rattle.std.specs.Prelude.{◌≡◌, IfOk, map, replicate};
 ghost use Rattle.std.specs.Option.{option_copied};
 ghost use Rattle.tree_filesets.specs.Founding.{unused_anode};
 ghost use Rattle.tree_filesets.specs.Laws.{is_file_at};
 ghost use Rattle.store_acts.specs.Moving.{arrival_slot};
 ghost use Rattle.store_state.specs.State.{held_at as held_in};
+ghost use Rattle.disk_acts.specs.Seen.{seen_anode};
 ghost use Rattle.disk_acts.specs.Touched.{
   called_name,
   called_slot,
@@ -18,27 +19,27 @@ ghost use Rattle.disk_acts.specs.Touched.{
   IsBefore,
 };
 
-use base_types::{Fid, FilesetId, Items, Name, NoMemory, Plain};
+use crate::seen::{SeenAnode, see_anodes};
+use base_types::{Fid, FilesetId, Items, Name, NoMemory};
 use std::alloc::Global;
 use store_acts::Act;
 use store_state::{Coming, Sought, StoreState, free_slot, held, held_at, slot_of, unique_at};
 use tree_calls::Call;
 use tree_filesets::{Fileset, object_at};
-use tree_objects::Anode;
 
 // Slots of a store, and anodes of each.
 const SLOTS: usize = 16;
 
 const ANODES: usize = 64;
 
-/// Which slots an act may change, and the anodes before it of the slot whose anodes it may change.
+/// Which slots an act may change, and what is seen before it of the anodes of the slot whose anodes it may change.
 #[derive(Drop)]
 pub struct Before {
     pub(crate) slot: usize,
     pub(crate) other: usize,
     pub(crate) source: usize,
     pub(crate) gives: bool,
-    pub(crate) anodes: Items<Anode>,
+    pub(crate) anodes: Items<SeenAnode>,
 }
 
 // The name of the fileset that a call changes.
@@ -151,13 +152,13 @@ pub(crate) fn renews(act: &Act) -> bool
     )
 }
 
-// Anodes that were never used.
-fn unused_anodes(alloc: Global) -> Result<Items<Anode>, NoMemory>
-    ensures { IfOk result (λ anodes. anodes ≡ replicate 64 unused_anode) }
+// What is seen of anodes that were never used.
+fn unused_anodes(alloc: Global) -> Result<Items<SeenAnode>, NoMemory>
+    ensures { IfOk result (λ anodes. anodes ≡ map seen_anode (replicate 64 unused_anode)) }
 {
     let mut anodes = Items::new(alloc);
     for at in 0..ANODES {
-        anodes.push(Anode {
+        anodes.push(SeenAnode {
             unique: 0,
             object: None,
         })?;
@@ -165,12 +166,13 @@ fn unused_anodes(alloc: Global) -> Result<Items<Anode>, NoMemory>
     Ok(anodes)
 }
 
-fn anodes_before(state: &StoreState, slot: usize) -> Result<Items<Anode>, NoMemory>
-    ensures { IfOk result (λ anodes. anodes ≡ anodes_before (held_in state.now.slots slot)) }
+fn anodes_before(state: &StoreState, slot: usize) -> Result<Items<SeenAnode>, NoMemory>
+    ensures { IfOk result (λ seen. seen ≡ map seen_anode (anodes_before (held_in state.now.slots slot))) }
 {
+    let alloc = state.slots.alloc();
     match held_at(&state.slots, slot) {
-        Some(holding) => holding.fileset.anodes.copy(),
-        None => unused_anodes(state.slots.alloc()),
+        Some(holding) => see_anodes(alloc, holding.fileset.anodes.as_slice()),
+        None => unused_anodes(alloc),
     }
 }
 

@@ -13,17 +13,17 @@ put_anodes-requires-clause-may g c =
     let low = low_slot c.args.state.now c.args.before.now.slot c.args.holding.now c.requires.tables c.requires.held in
     let on : renews c.args.act.now ≡ true = sym c.renews.ensures ∙ c.if-not-renews.false in
     let blocks = renews_blocks c.args.act.now on in
-    may_slot g.D.Disk.tells g.D.Disk.view c.args.act.now c.args.before.now c.args.state.now (AreAt c.args.before.now.slot c.args.before.now.anodes) 144 c.args.log.now c.args.tx.now (omega (arith, blocks))
-    (λ old slots made keeps holds. at_slot g.D.Disk.view c.args.act.now c.args.before.now c.args.state.now c.args.log.now low on old slots made keeps holds) c.requires.may
+    may_slot g.D.Disk.tells g.D.Disk.view c.args.act.now c.args.before.now c.args.state.now (AreAt c.args.before.now.slot c.args.before.now.anodes c.args.holding.now.fileset.anodes) 144 c.args.log.now c.args.tx.now (omega (arith, blocks))
+    (λ old slots made keeps holds. at_slot g.D.Disk.view c.args.act.now c.args.before.now c.args.state.now c.args.log.now low c.args.holding.now c.requires.held on old slots made keeps holds) c.requires.may
 
 pub returns-clause-puts : goal.returns-clause-puts
 returns-clause-puts g c =
     let low = low_slot c.args.state.now c.args.before.now.slot c.args.holding.now c.requires.tables c.requires.held in
     let on : renews c.args.act.now ≡ true = sym c.renews.ensures ∙ c.if-not-renews.false in
     let few : length c.args.holding.now.fileset.anodes ≤ 64 = (let e = c.len.ensures in let le = c.if-len.false in omega (arith, e, le)) in
-    puts_slot g.D.Disk.tells g.D.Disk.view c.args.act.now c.args.before.now c.args.state.now c.args.holding.now (AreAt c.args.before.now.slot c.args.before.now.anodes)
+    puts_slot g.D.Disk.tells g.D.Disk.view c.args.act.now c.args.before.now c.args.state.now c.args.holding.now (AreAt c.args.before.now.slot c.args.before.now.anodes c.args.holding.now.fileset.anodes)
     (λ slots. replaced c.args.holding.now.fileset.anodes (slots c.args.before.now.slot)) 144 c.put_anodes.result c.args.log.now c.put_anodes.new.log c.args.tx.now c.put_anodes.new.tx
-    (λ old slots made keeps holds. renewed_held g.D.Disk.view c.args.act.now c.args.before.now c.args.state.now c.args.log.now low c.args.holding.now on few old slots made keeps holds)
+    (λ old slots made keeps holds. renewed_held g.D.Disk.view c.args.act.now c.args.before.now c.args.state.now c.args.log.now low c.args.holding.now c.requires.held on few old slots made keeps holds)
     c.put_anodes.ensures.kept c.put_anodes.ensures.changes
 
 pub returns-clause-steps : goal.returns-clause-steps

@@ -22,7 +22,7 @@ loop-at-init g c = record {
 pub renew-requires-clause-may : goal.renew-requires-clause-may
 renew-requires-clause-may g c =
     may_after g.D.Disk.tells g.D.Disk.view c.args.slot (72 * (2 - c.loop-at.room)) (72 * c.loop-at.room) 144 (let few = c.loop-at.invariant.room in omega (arith, few)) 0 c.args.log.now c.loop-at.log c.args.tx.now c.loop-at.tx c.loop-at.invariant.changes
-    KeepsNow (AreAt c.args.slot c.args.before.now) (AreAt c.args.slot c.args.before.now) (IsAt c.args.slot c.loop-at.at c.args.before.now) (renewed_to c.args.slot c.args.after.now c.loop-at.at) c.requires.may c.loop-at.invariant.kept
+    KeepsNow (AreAt c.args.slot c.args.before.now c.args.after.now) (AreAt c.args.slot c.args.before.now c.args.after.now) (IsAt c.args.slot c.loop-at.at c.args.before.now c.args.after.now) (renewed_to c.args.slot c.args.after.now c.loop-at.at) c.requires.may c.loop-at.invariant.kept
     (λ slots held is. (is, at_next c.args.slot c.loop-at.at c.args.before.now c.args.after.now slots (is c.loop-at.at c.loop-at-test.true)))
 
 pub returns-in_err-renew-clause-changes : goal.returns-in_err-renew-clause-changes
@@ -41,10 +41,10 @@ loop-at-preserved g c =
     let less = c.renew.ensures.room in
     record {
       room = omega (arith, few, less);
-      kept = turned_as {T = ℕ} KeepsNow g.D.Disk.tells g.D.Disk.view (AreAt c.args.slot c.args.before.now)
+      kept = turned_as {T = ℕ} KeepsNow g.D.Disk.tells g.D.Disk.view (AreAt c.args.slot c.args.before.now c.args.after.now)
           (λ slots. with_anode c.args.slot (c.loop-at.at + 1) (renewed (slice_get c.args.after.now c.loop-at.at)) (renewed_to c.args.slot c.args.after.now c.loop-at.at slots)) (renewed_to c.args.slot c.args.after.now (c.loop-at.at + 1)) (Ok 0) c.args.log.now c.renew.new.log
           (λ slots is. renewed_more c.args.slot c.loop-at.at c.args.after.now slots)
-          (turned_then {U = ℕ} KeepsNow g.D.Disk.tells g.D.Disk.view (AreAt c.args.slot c.args.before.now) (AreAt c.args.slot c.args.before.now) (IsAt c.args.slot c.loop-at.at c.args.before.now) (renewed_to c.args.slot c.args.after.now c.loop-at.at)
+          (turned_then {U = ℕ} KeepsNow g.D.Disk.tells g.D.Disk.view (AreAt c.args.slot c.args.before.now c.args.after.now) (AreAt c.args.slot c.args.before.now c.args.after.now) (IsAt c.args.slot c.loop-at.at c.args.before.now c.args.after.now) (renewed_to c.args.slot c.args.after.now c.loop-at.at)
           (with_anode c.args.slot (c.loop-at.at + 1) (renewed (slice_get c.args.after.now c.loop-at.at))) (Ok 0) c.args.log.now c.loop-at.log c.renew.new.log
           (λ slots held is. (is, at_next c.args.slot c.loop-at.at c.args.before.now c.args.after.now slots (is c.loop-at.at c.loop-at-test.true))) invariant.kept c.in_ok-renew.ensures.kept);
       changes = changes_then g.D.Disk.tells g.D.Disk.view c.args.slot (72 * (2 - c.loop-at.room)) (72 * (c.loop-at.room - c.renew.new.room)) (72 * (2 - c.renew.new.room)) (omega (arith, few, less)) 0 c.args.log.now c.loop-at.log c.args.tx.now c.loop-at.tx invariant.changes (Ok 0) c.renew.new.log c.renew.new.tx

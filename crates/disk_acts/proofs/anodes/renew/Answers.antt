@@ -5,11 +5,14 @@ use Rattle.tree_objects.specs.declared.content.Object.{Object}
 use Rattle.disk_log.specs.Log.{disk_of, state_of}
 use Rattle.disk_objects.specs.Objects.{KeepsNow}
 use Rattle.disk_acts.specs.Anodes.{IsOne, renewed}
+use Rattle.disk_acts.specs.Seen.{seen_anode}
+use Rattle.disk_acts.specs.declared.seen.SeenAnode.{SeenAnode}
 use Rattle.disk_acts.proofs.Renewing.{anode_stays}
 use Rattle.disk_acts.proofs.anodes.renew.Goals as goal
 
-stays : (before after : Option Anode) (was is now : Anode) → Some was ≡ before → Some is ≡ after → was ≡ is → IsOne before now → renewed after now ≡ now
-stays before after was is now b a same one = (λ i. renewed (sym a i) now) ∙ sym same ∙ sym (subst (λ (o : Option Anode). IsOne o now) (sym b) one)
+stays : (before : Option SeenAnode) (after : Option Anode) (was : SeenAnode) (is now : Anode) → Some was ≡ before → Some is ≡ after → was ≡ seen_anode is → IsOne before after now → renewed after now ≡ now
+stays before after was is now b a same one =
+    (λ i. renewed (sym a i) now) ∙ sym (subst (λ (o : Option SeenAnode). IsOne o (Some is) now) (sym b) (subst (λ (o : Option Anode). IsOne before o now) (sym a) one) same)
 
 pub returns-in-Some-Some-clause-kept : goal.returns-in-Some-Some-clause-kept
 returns-in-Some-Some-clause-kept g c = λ told slots held one.
@@ -21,8 +24,8 @@ gone : (o : Option Object) → is_none o ≡ true → None ≡ o
 gone None e = refl
 gone (Some object) e = absurd (grind (arith, e))
 
-nothing : (before after : Option Anode) (now : Anode) → None ≡ before → None ≡ after → IsOne before now → renewed after now ≡ now
-nothing before after now b a free = (λ i. renewed (sym a i) now) ∙ ap (λ (o : Option Object). record now { object = o }) (gone now.object (subst (λ (o : Option Anode). IsOne o now) (sym b) free))
+nothing : (before : Option SeenAnode) (after : Option Anode) (now : Anode) → None ≡ before → None ≡ after → IsOne before after now → renewed after now ≡ now
+nothing before after now b a free = (λ i. renewed (sym a i) now) ∙ ap (λ (o : Option Object). record now { object = o }) (gone now.object (subst (λ (o : Option SeenAnode). IsOne o after now) (sym b) free))
 
 pub returns-in-None-None-clause-kept : goal.returns-in-None-None-clause-kept
 returns-in-None-None-clause-kept g c = λ told slots held free.
